@@ -1,0 +1,4 @@
+mod KqlEquations
+mod SeenLemmas
+mod Steps
+mod ValidLemmas
