@@ -2,3 +2,4 @@ mod KqlEquations
 mod SeenLemmas
 mod Steps
 mod ValidLemmas
+mod WorkedExamples
