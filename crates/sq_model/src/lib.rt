@@ -16,6 +16,8 @@ mod places;
 mod restrictions;
 mod runs;
 mod seen;
+#[cfg(test)]
+mod tests;
 mod text_value;
 mod triple;
 
