@@ -11,7 +11,7 @@ use Rattle.std.specs.Prelude.{sum_by, slice_get, unwrap_or}
 use Rattle.sq_pool.specs.declared.pool.Entry.{Entry}
 use Rattle.sq_pool.specs.Shelf.{Stock, IsTaken, slice_at, all_words}
 use Rattle.sq_pool.specs.Region.{slice_words, room_of, no_stock, stock_at, joined_from}
-use Rattle.sq_pool.specs.Pool.{Held, Holding, chain_at, words_of, free_at, Place, place_from, place_of, word_at, AreSeparate}
+use Rattle.sq_pool.specs.Pool.{Held, Holding, chain_at, words_of, numbers_of, slices_of, free_of, free_at, Place, place_from, place_of, word_at, AreSeparate}
 use Rattle.sq_pool.specs.Kept.{held_in, holding_of, Owns, IsPool}
 use Rattle.sq_pool.proofs.ShelfLemmas.{get_or-slice, slice_ends}
 use Rattle.sq_pool.proofs.RegionLemmas.{AreSized, same_or_other, slice_words-suc, get_or-joined}
@@ -58,6 +58,26 @@ placed size (number ∷ numbers) at within = elim (cases_lt at (slice_words size
             (place_from (suc size) numbers (at - slice_words size)) (record { size = rest.which; slice = get_or numbers rest.nth 0; at = rest.far }) beyond (sym rest.is));
       }
 ]
+
+-- a live chain and its entry
+record Entered (slots : List (Option Entry)) (region : List Stock) (chain : ℕ) : Type 0 where
+  entry : Entry
+  found : get_or slots chain None ≡ Some entry
+  numbers : numbers_of (holding_of slots region) chain ≡ entry.slices.items
+
+-- a number with slices is a live chain's
+entered : (slots : List (Option Entry)) (region : List Stock) (chain : ℕ) (slot : Option Entry)
+    → get_or slots chain None ≡ slot → 0 < slices_of (holding_of slots region) chain → Entered slots region chain
+entered slots region chain None here some = absurd
+    (let none : numbers_of (holding_of slots region) chain ≡ [] =
+    ap (λ (o : Option Held). (unwrap_or {T = Held} o (record { words = []; slices = [] })).slices) (chain_is slots region chain ∙ ap (option_map (held_in region)) here) in
+    let count : slices_of (holding_of slots region) chain ≡ 0 = ap length none in
+    omega (arith, count, some))
+entered slots region chain (Some entry) here some = record {
+  entry = entry;
+  found = here;
+  numbers = ap (λ (o : Option Held). (unwrap_or {T = Held} o (record { words = []; slices = [] })).slices) (chain_some slots region chain entry here);
+}
 
 -- a live chain, its entry, and where a word of it lies
 record Found (slots : List (Option Entry)) (region : List Stock) (chain at : ℕ) : Type 0 where
@@ -121,7 +141,18 @@ separate slots region pool = record {
       let one : Found slots region chain at = found_at slots region chain at _ pool refl less in
       subst (λ (place : Place). place.at < slice_words place.size) (sym one.is) one.inside;
   apart = apart;
-  taken = taken;
+  slices = λ chain other size differ first second same.
+      let one : Entered slots region chain = entered slots region chain _ refl (omega (arith, first)) in
+      let two : Entered slots region other = entered slots region other _ refl (omega (arith, second)) in
+      (pool.apart chain other one.entry two.entry differ one.found two.found).at size
+      (omega (arith, first, ap length one.numbers)) (omega (arith, second, ap length two.numbers))
+      (sym (ap (λ numbers. get_or numbers size 0) one.numbers) ∙ same ∙ ap (λ numbers. get_or numbers size 0) two.numbers);
+  taken = λ chain size i less few same.
+      let one : Entered slots region chain = entered slots region chain _ refl (omega (arith, less)) in
+      let free : free_of (holding_of slots region) size ≡ (stock_at region size).free = get_or-map (λ stock. stock.free) region size (no_stock (slice_words size)) in
+      ((pool.owns chain one.entry one.found).taken size (omega (arith, less, ap length one.numbers))).apart i
+      (omega (arith, few, ap length free))
+      (sym (ap (λ numbers. get_or numbers i 0) free) ∙ same ∙ ap (λ numbers. get_or numbers size 0) one.numbers);
 }
   where
     lies : (chain at : ℕ) → at < length (words_of (holding_of slots region) chain)
@@ -141,8 +172,9 @@ separate slots region pool = record {
     apart chain other at place less within same =
         let one : Found slots region chain at = found_at slots region chain at _ pool refl less in
         let two : Found slots region other place = found_at slots region other place _ pool refl within in
-        let both : record { size = one.place.nth; slice = get_or one.entry.slices.items one.place.nth 0; at = one.place.far }
-        ≡ record { size = two.place.nth; slice = get_or two.entry.slices.items two.place.nth 0; at = two.place.far } = sym one.is ∙ same ∙ two.is in
+        let P : ℕ → ℕ → ℕ → Place = λ size slice far. record { size = size; slice = slice; at = far } in
+        let both : P one.place.nth (get_or one.entry.slices.items one.place.nth 0) one.place.far ≡ P two.place.nth (get_or two.entry.slices.items two.place.nth 0) two.place.far =
+        sym one.is ∙ same ∙ two.is in
         let size : one.place.nth ≡ two.place.nth = ap (λ (p : Place). p.size) both in
         let slice : get_or one.entry.slices.items one.place.nth 0 ≡ get_or two.entry.slices.items two.place.nth 0 = ap (λ (p : Place). p.slice) both in
         let far : one.place.far ≡ two.place.far = ap (λ (p : Place). p.at) both in
@@ -155,17 +187,6 @@ separate slots region pool = record {
           ],
           omega (arith, one.sum, two.sum, room, far),
         )
-
-    taken : (chain at i : ℕ) → at < length (words_of (holding_of slots region) chain) → i < free_at (holding_of slots region) (place_of (holding_of slots region) chain at).size
-        → get_or (get_or (holding_of slots region).free (place_of (holding_of slots region) chain at).size []) i 0 ≢ (place_of (holding_of slots region) chain at).slice
-    taken chain at i less few =
-        let one : Found slots region chain at = found_at slots region chain at _ pool refl less in
-        let held : IsTaken (stock_at region one.place.nth) (get_or one.entry.slices.items one.place.nth 0) =
-        (pool.owns chain one.entry one.found).taken one.place.nth one.place.less in
-        subst (λ (p : Place). i < free_at (holding_of slots region) p.size → get_or (get_or (holding_of slots region).free p.size []) i 0 ≢ p.slice) (sym one.is)
-        (λ below. subst (λ (numbers : List ℕ). i < length numbers → get_or numbers i 0 ≢ get_or one.entry.slices.items one.place.nth 0)
-        (sym (get_or-map (λ stock. stock.free) region one.place.nth (no_stock (slice_words one.place.nth)))) (held.apart i) below)
-        few
 
 -- the region has as many words as the slices of all sizes
 pub region_words : (region : List Stock) → ((size : ℕ) → size < length region → length (get_or region size (no_stock 0)).words ≡ all_words (get_or region size (no_stock 0)))
