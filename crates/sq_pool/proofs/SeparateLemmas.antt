@@ -33,15 +33,15 @@ placed size [] at within = absurd
     (let same : slice_words (size + length {A = ℕ} []) ≡ slice_words size = ap slice_words (omega arith) in omega (arith, same, within))
 placed size (number ∷ numbers) at within = elim (cases_lt at (slice_words size)) [
   | inl here ↦ record {
-      nth = 0;
-      which = size;
-      far = at;
-      less = omega arith;
-      which_is = omega arith;
-      inside = here;
-      sum = omega arith;
-      is = sym (cond_below at (slice_words size) (record { size = size; slice = number; at = at }) (place_from (suc size) numbers (at - slice_words size)) here);
-    }
+    nth = 0;
+    which = size;
+    far = at;
+    less = omega arith;
+    which_is = omega arith;
+    inside = here;
+    sum = omega arith;
+    is = sym (cond_below at (slice_words size) (record { size = size; slice = number; at = at }) (place_from (suc size) numbers (at - slice_words size)) here);
+  }
   | inr beyond ↦
       let double : slice_words (suc size) ≡ slice_words size + slice_words size = slice_words-suc size in
       let same : slice_words (size + length (number ∷ numbers)) ≡ slice_words (suc size + length numbers) = ap slice_words (omega arith) in
@@ -178,8 +178,7 @@ separate slots region pool = record {
         let size : one.place.nth ≡ two.place.nth = ap (λ (p : Place). p.size) both in
         let slice : get_or one.entry.slices.items one.place.nth 0 ≡ get_or two.entry.slices.items two.place.nth 0 = ap (λ (p : Place). p.slice) both in
         let far : one.place.far ≡ two.place.far = ap (λ (p : Place). p.at) both in
-        let room : room_of one.place.nth ≡ room_of two.place.nth = ap room_of size in
-        (
+        let room : room_of one.place.nth ≡ room_of two.place.nth = ap room_of size in (
           elim (same_or_other chain other) [
             | inl equal ↦ equal
             | inr differ ↦ absurd ((pool.apart chain other one.entry two.entry differ one.found two.found).at one.place.nth one.place.less
