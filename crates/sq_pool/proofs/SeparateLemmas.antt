@@ -9,11 +9,11 @@ use Rattle.std.proofs.lemmas.List.Sums.{sum_by-cons}
 use Rattle.std.specs.Option.{option_map}
 use Rattle.std.specs.Prelude.{sum_by, slice_get, unwrap_or}
 use Rattle.sq_pool.specs.declared.pool.Entry.{Entry}
-use Rattle.sq_pool.specs.Shelf.{Stock, IsTaken, slice_at, all_words}
-use Rattle.sq_pool.specs.Region.{slice_words, room_of, no_stock, stock_at, joined_from}
+use Rattle.sq_pool.specs.SizeClass.{ClassState, IsTaken, slice_at, all_words}
+use Rattle.sq_pool.specs.Region.{slice_words, room_of, empty_state, state_at, joined_from}
 use Rattle.sq_pool.specs.Pool.{Held, Holding, chain_at, words_of, numbers_of, slices_of, free_of, free_at, Place, place_from, place_of, word_at, AreSeparate}
 use Rattle.sq_pool.specs.Kept.{held_in, holding_of, Owns, IsPool}
-use Rattle.sq_pool.proofs.ShelfLemmas.{get_or-slice, slice_ends}
+use Rattle.sq_pool.proofs.ClassLemmas.{get_or-slice, slice_ends}
 use Rattle.sq_pool.proofs.RegionLemmas.{AreSized, same_or_other, slice_words-suc, get_or-joined}
 use Rattle.sq_pool.proofs.PoolLemmas.{chain_is, chain_some, words_is, length_held, owns_sized, sized_at}
 
@@ -60,13 +60,13 @@ placed size (number ∷ numbers) at within = elim (cases_lt at (slice_words size
 ]
 
 -- a live chain and its entry
-record Entered (slots : List (Option Entry)) (region : List Stock) (chain : ℕ) : Type 0 where
+record Entered (slots : List (Option Entry)) (region : List ClassState) (chain : ℕ) : Type 0 where
   entry : Entry
   found : get_or slots chain None ≡ Some entry
   numbers : numbers_of (holding_of slots region) chain ≡ entry.slices.items
 
 -- a number with slices is a live chain's
-entered : (slots : List (Option Entry)) (region : List Stock) (chain : ℕ) (slot : Option Entry)
+entered : (slots : List (Option Entry)) (region : List ClassState) (chain : ℕ) (slot : Option Entry)
     → get_or slots chain None ≡ slot → 0 < slices_of (holding_of slots region) chain → Entered slots region chain
 entered slots region chain None here some = absurd
     (let none : numbers_of (holding_of slots region) chain ≡ [] =
@@ -80,7 +80,7 @@ entered slots region chain (Some entry) here some = record {
 }
 
 -- a live chain, its entry, and where a word of it lies
-record Found (slots : List (Option Entry)) (region : List Stock) (chain at : ℕ) : Type 0 where
+record Found (slots : List (Option Entry)) (region : List ClassState) (chain at : ℕ) : Type 0 where
   entry : Entry
   found : get_or slots chain None ≡ Some entry
   less : at < entry.len
@@ -89,7 +89,7 @@ record Found (slots : List (Option Entry)) (region : List Stock) (chain at : ℕ
   inside : place.far < slice_words place.nth
   sum : at ≡ room_of place.nth + place.far
 
-found_at : (slots : List (Option Entry)) (region : List Stock) (chain at : ℕ) (slot : Option Entry) → IsPool slots region
+found_at : (slots : List (Option Entry)) (region : List ClassState) (chain at : ℕ) (slot : Option Entry) → IsPool slots region
     → get_or slots chain None ≡ slot → at < length (words_of (holding_of slots region) chain) → Found slots region chain at
 found_at slots region chain at None pool here less = absurd
     (let none : words_of (holding_of slots region) chain ≡ [] =
@@ -117,24 +117,24 @@ found_at slots region chain at (Some entry) pool here less =
     }
 
 -- the words of the slices of a size
-region_is : (slots : List (Option Entry)) (region : List Stock) (size : ℕ)
-    → get_or (holding_of slots region).region size [] ≡ (stock_at region size).words
-region_is slots region size = get_or-map (λ stock. stock.words) region size (no_stock (slice_words size))
+region_is : (slots : List (Option Entry)) (region : List ClassState) (size : ℕ)
+    → get_or (holding_of slots region).region size [] ≡ (state_at region size).words
+region_is slots region size = get_or-map (λ state. state.words) region size (empty_state (slice_words size))
 
 -- the word at a place of a slice that a chain holds
-word_in : (slots : List (Option Entry)) (region : List Stock) (size number far : ℕ) → IsPool slots region → IsTaken (stock_at region size) number
+word_in : (slots : List (Option Entry)) (region : List ClassState) (size number far : ℕ) → IsPool slots region → IsTaken (state_at region size) number
     → far < slice_words size
-    → word_at (holding_of slots region) (record { size = size; slice = number; at = far }) ≡ Some (get_or (slice_at (stock_at region size) number) far 0)
+    → word_at (holding_of slots region) (record { size = size; slice = number; at = far }) ≡ Some (get_or (slice_at (state_at region size) number) far 0)
 word_in slots region size number far pool held inside =
-    let stock : Stock = stock_at region size in
-    let width : stock.width ≡ slice_words size = pool.sized.width size in
-    let ends : number * stock.width + stock.width ≤ stock.count * stock.width = slice_ends number stock.count stock.width held.below in
-    let start : number * stock.width ≡ number * slice_words size = ap (λ w. number * w) width in
+    let state : ClassState = state_at region size in
+    let width : state.width ≡ slice_words size = pool.sized.width size in
+    let ends : number * state.width + state.width ≤ state.count * state.width = slice_ends number state.count state.width held.below in
+    let start : number * state.width ≡ number * slice_words size = ap (λ w. number * w) width in
     ap (λ words. slice_get words (number * slice_words size + far)) (region_is slots region size)
-    ∙ slice_get-get_or stock.words (number * slice_words size + far) 0 (omega (arith, ends, start, width, inside, (pool.sized.whole size).words))
-    ∙ ap Some (ap (λ from. get_or stock.words (from + far) 0) (sym start) ∙ sym (get_or-slice number far stock.width stock.words (omega (arith, width, inside))))
+    ∙ slice_get-get_or state.words (number * slice_words size + far) 0 (omega (arith, ends, start, width, inside, (pool.sized.whole size).words))
+    ∙ ap Some (ap (λ from. get_or state.words (from + far) 0) (sym start) ∙ sym (get_or-slice number far state.width state.words (omega (arith, width, inside))))
 
-pub separate : (slots : List (Option Entry)) (region : List Stock) → IsPool slots region → AreSeparate (holding_of slots region)
+pub separate : (slots : List (Option Entry)) (region : List ClassState) → IsPool slots region → AreSeparate (holding_of slots region)
 separate slots region pool = record {
   lies = lies;
   inside = λ chain at less.
@@ -149,7 +149,7 @@ separate slots region pool = record {
       (sym (ap (λ numbers. get_or numbers size 0) one.numbers) ∙ same ∙ ap (λ numbers. get_or numbers size 0) two.numbers);
   taken = λ chain size i less few same.
       let one : Entered slots region chain = entered slots region chain _ refl (omega (arith, less)) in
-      let free : free_of (holding_of slots region) size ≡ (stock_at region size).free = get_or-map (λ stock. stock.free) region size (no_stock (slice_words size)) in
+      let free : free_of (holding_of slots region) size ≡ (state_at region size).free = get_or-map (λ state. state.free) region size (empty_state (slice_words size)) in
       ((pool.owns chain one.entry one.found).taken size (omega (arith, less, ap length one.numbers))).apart i
       (omega (arith, few, ap length free))
       (sym (ap (λ numbers. get_or numbers i 0) free) ∙ same ∙ ap (λ numbers. get_or numbers size 0) one.numbers);
@@ -188,14 +188,14 @@ separate slots region pool = record {
         )
 
 -- the region has as many words as the slices of all sizes
-pub region_words : (region : List Stock) → ((size : ℕ) → size < length region → length (get_or region size (no_stock 0)).words ≡ all_words (get_or region size (no_stock 0)))
-    → sum_by length (map (λ stock. stock.words) region) ≡ sum_by all_words region
+pub region_words : (region : List ClassState) → ((size : ℕ) → size < length region → length (get_or region size (empty_state 0)).words ≡ all_words (get_or region size (empty_state 0)))
+    → sum_by length (map (λ state. state.words) region) ≡ sum_by all_words region
 region_words [] whole = refl
-region_words (stock ∷ region) whole =
-    let first : length stock.words ≡ all_words stock = whole 0 (omega arith) in
-    let rest : sum_by length (map (λ stock. stock.words) region) ≡ sum_by all_words region = region_words region (λ size less. whole (suc size) (omega arith)) in
-    omega (arith, sum_by-cons length stock.words (map (λ s. s.words) region), sum_by-cons all_words stock region, first, rest)
+region_words (state ∷ region) whole =
+    let first : length state.words ≡ all_words state = whole 0 (omega arith) in
+    let rest : sum_by length (map (λ state. state.words) region) ≡ sum_by all_words region = region_words region (λ size less. whole (suc size) (omega arith)) in
+    omega (arith, sum_by-cons length state.words (map (λ s. s.words) region), sum_by-cons all_words state region, first, rest)
 
-pub region_size : (slots : List (Option Entry)) (region : List Stock) → IsPool slots region
+pub region_size : (slots : List (Option Entry)) (region : List ClassState) → IsPool slots region
     → sum_by length (holding_of slots region).region ≡ sum_by all_words region
 region_size slots region pool = region_words region (λ size less. (sized_at region pool.sized size size (omega arith) less).whole.words)

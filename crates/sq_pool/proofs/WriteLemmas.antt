@@ -5,8 +5,8 @@ use Rattle.std.proofs.lemmas.List.{length-set, length-take-le, take-append-drop,
 use Rattle.std.proofs.lemmas.List.Edits.{paste_all}
 use Rattle.std.proofs.lemmas.Slice.{put_mid-paste}
 use borrow.Rule.Slice.PartMut.{put_mid}
-use Rattle.sq_pool.specs.Shelf.{written}
-use Rattle.sq_pool.proofs.ShelfLemmas.{slice-set_same, slice-set_other}
+use Rattle.sq_pool.specs.SizeClass.{written}
+use Rattle.sq_pool.proofs.ClassLemmas.{slice-set_same, slice-set_other}
 
 pub length-written : (xs : List ℕ) (at : ℕ) (ys : List ℕ) → length (written xs at ys) ≡ length xs
 length-written xs at [] = refl
