@@ -1,5 +1,5 @@
 -- Lemmas on the places of the words of chains.
-use Rattle.std.proofs.Common.{◌≡◌, ◌≢◌, ℕ, suc, ◌+◌, ◌-◌, ◌*◌, ◌^◌, ◌<◌, ◌≤◌, List, [], ◌∷◌, length, take, get_or, map, inl, inr, refl, sym, subst, ap, ◌∙◌, arith, Option, Some, None}
+use Rattle.std.proofs.Common.{◌≡◌, ℕ, suc, ◌+◌, ◌-◌, ◌*◌, ◌^◌, ◌<◌, ◌≤◌, List, [], ◌∷◌, length, get_or, map, inl, inr, refl, sym, subst, ap, ◌∙◌, arith, Option, Some, None}
 use Rattle.std.proofs.Math.ListN.{get_or-map}
 use Rattle.std.proofs.lemmas.Bool.{cases_lt, cond_below, cond_above}
 use Rattle.std.proofs.lemmas.List.{get_or-take}
@@ -11,10 +11,10 @@ use Rattle.std.specs.Prelude.{sum_by, slice_get, unwrap_or}
 use Rattle.sq_pool.specs.declared.pool.Entry.{Entry}
 use Rattle.sq_pool.specs.SizeClass.{ClassState, IsTaken, slice_at, all_words}
 use Rattle.sq_pool.specs.Region.{slice_words, room_of, empty_state, state_at, joined_from}
-use Rattle.sq_pool.specs.Pool.{Held, Holding, chain_at, words_of, numbers_of, slices_of, free_of, free_at, Place, place_from, place_of, word_at, AreSeparate}
+use Rattle.sq_pool.specs.Pool.{Held, words_of, numbers_of, slices_of, free_of, Place, place_from, place_of, word_at, AreSeparate}
 use Rattle.sq_pool.specs.Kept.{held_in, holding_of, Owns, IsPool}
 use Rattle.sq_pool.proofs.ClassLemmas.{get_or-slice, slice_ends}
-use Rattle.sq_pool.proofs.RegionLemmas.{AreSized, same_or_other, slice_words-suc, get_or-joined}
+use Rattle.sq_pool.proofs.RegionLemmas.{same_or_other, slice_words-suc, get_or-joined}
 use Rattle.sq_pool.proofs.PoolLemmas.{chain_is, chain_some, words_is, length_held, owns_sized, sized_at}
 
 -- where a word of a chain's slices lies

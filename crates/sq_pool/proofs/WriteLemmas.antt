@@ -1,5 +1,5 @@
 -- Lemmas on lists into which words are written from a place on.
-use Rattle.std.proofs.Common.{◌≡◌, ◌≢◌, ℕ, suc, ◌+◌, ◌-◌, ◌*◌, ◌<◌, ◌≤◌, List, [], ◌∷◌, ◌++◌, length, take, drop, get_or, set, refl, sym, ap, ◌∙◌, arith, append_assoc, length-append}
+use Rattle.std.proofs.Common.{◌≡◌, ◌≢◌, ℕ, suc, ◌+◌, ◌-◌, ◌*◌, ◌≤◌, List, [], ◌∷◌, ◌++◌, length, take, drop, get_or, set, refl, sym, ap, ◌∙◌, arith, append_assoc, length-append}
 use Rattle.std.proofs.Math.Seq.{take-set-lt, take-append_seam, set-append_seam}
 use Rattle.std.proofs.lemmas.List.{length-set, length-take-le, take-append-drop, take_more, set-append_left, set-append_right}
 use Rattle.std.proofs.lemmas.List.Edits.{paste_all}

@@ -6,7 +6,7 @@ ghost use Rattle.sq_pool.specs.SizeClass.{IsTaken, IsWhole, slice_at, written, t
 use std::alloc::{AllocError, Global};
 use std::marker::Model;
 
-/// A class has at most so many slices.
+/// A class has at most so many slices. With more the words of a region might not be counted in 64 bits.
 const MOST_SLICES: u32 = 1 << 30;
 
 /// Slices of `width` words each, one after another, and the numbers of those that are free.
