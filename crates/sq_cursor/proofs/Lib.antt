@@ -1,5 +1,6 @@
 pub mod EntryLemmas
-pub mod PartLemmas
+pub mod HeapLemmas
 pub mod RowLemmas
 pub mod SpanLemmas
+pub mod TopLemmas
 pub mod UnionLemmas

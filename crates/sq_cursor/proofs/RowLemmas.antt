@@ -5,7 +5,7 @@ use Rattle.std.proofs.lemmas.Bool.Decides.{nat_tests}
 use Rattle.std.proofs.lemmas.Bool.{eqb-true, eq-eqb}
 use Rattle.std.specs.Option.{option_and, option_eq}
 use Rattle.sq_cursor.specs.Entries.{entries_behind}
-use Rattle.sq_cursor.specs.Rows.{AllAbove, IsRising, first_row, without_first, HasRow, rows_from, is_row_of, common_rows, other_rows, is_aligned, is_settled, lower_row, with_row, with_rows}
+use Rattle.sq_cursor.specs.Rows.{AllAbove, IsRising, first_row, without_first, HasRow, rows_from, is_row_of, common_rows, other_rows, is_aligned, is_settled, with_row, with_rows}
 
 or_true : (b : Bool) → b || true ≡ true
 or_true true = refl
@@ -130,10 +130,6 @@ pub has_row_from_first : (xs : List ℕ) (x : ℕ) → first_row xs ≡ Some x �
 has_row_from_first [] x e = cc
 has_row_from_first (y ∷ xs) x e = tt
 
-pub without_first-end : (xs : List ℕ) → first_row xs ≡ None → xs ≡ []
-without_first-end [] e = refl
-without_first-end (x ∷ xs) e = cc
-
 -- Seeking one list
 
 rows_from-all : (row low : ℕ) (xs : List ℕ) → row ≤ low → AllAbove low xs → rows_from row xs ≡ xs
@@ -148,14 +144,17 @@ rows_from-here row x (y ∷ xs) e l h =
     let same : y ≡ x = cc in let test : nat_le row y ≡ true = grind (arith, nat_tests) in
     rw (test, rows_from-all row y xs (omega arith) h.0) refl
 
-pub rows_from-end : (row : ℕ) (xs : List ℕ) → first_row xs ≡ None → rows_from row xs ≡ xs
-rows_from-end row [] e = refl
-rows_from-end row (x ∷ xs) e = cc
-
 pub rows_from-skip : (row x : ℕ) (xs : List ℕ) → first_row xs ≡ Some x → x < row → rows_from row (without_first xs) ≡ rows_from row xs
 rows_from-skip row x [] e l = refl
 rows_from-skip row x (y ∷ xs) e l =
     let same : y ≡ x = cc in let test : nat_le row y ≡ false = grind (arith, nat_tests) in rw test refl
+
+pub rows_from-twice : (row : ℕ) (xs : List ℕ) → rows_from row (rows_from row xs) ≡ rows_from row xs
+rows_from-twice row xs = filter-filter (nat_le row) (nat_le row) xs ∙ filter-same _ _ xs (λ r _. at (nat_le row r))
+  where
+    at : (b : Bool) → b && b ≡ b
+    at true = refl
+    at false = refl
 
 length-rows_from : (row : ℕ) (xs : List ℕ) → length (rows_from row xs) ≤ length xs
 length-rows_from row [] = omega arith
@@ -230,28 +229,10 @@ first_row-common [] (y ∷ ys) h = refl
 first_row-common (x ∷ xs) [] h = ap first_row (common_rows-none xs)
 first_row-common (x ∷ xs) (z ∷ ys) h = rw h refl
 
-pub has_row-filter : (p : ℕ → Bool) (xs : List ℕ) → HasRow (filter p xs) → HasRow xs
-has_row-filter p [] h = h
-has_row-filter p (x ∷ xs) h = tt
-
 pub without_first-common : (xs ys : List ℕ) → is_aligned xs ys ≡ true → HasRow (common_rows xs ys) → common_rows (without_first xs) ys ≡ without_first (common_rows xs ys)
 without_first-common [] ys h k = refl
 without_first-common (x ∷ xs) [] h k = absurd (subst HasRow (common_rows-none (x ∷ xs)) k)
 without_first-common (x ∷ xs) (y ∷ ys) h k = rw h refl
-
-pub aligned_at : (x y : ℕ) (xs ys : List ℕ) → first_row xs ≡ Some x → first_row ys ≡ Some y → x ≡ y → is_aligned xs ys ≡ true
-aligned_at x y [] ys e f same = refl
-aligned_at x y (z ∷ xs) [] e f same = refl
-aligned_at x y (z ∷ xs) (w ∷ ys) e f same = let a : z ≡ x = cc in let b : w ≡ y = cc in grind (arith, nat_tests)
-
-pub aligned_end : (xs ys : List ℕ) → first_row xs ≡ None → is_aligned xs ys ≡ true
-aligned_end [] ys e = refl
-aligned_end (x ∷ xs) ys e = cc
-
-pub aligned_second_end : (xs ys : List ℕ) → first_row ys ≡ None → is_aligned xs ys ≡ true
-aligned_second_end [] ys e = refl
-aligned_second_end (x ∷ xs) [] e = refl
-aligned_second_end (x ∷ xs) (y ∷ ys) e = cc
 
 -- The rows of one list that another does not have
 
@@ -281,17 +262,9 @@ other_rows-seek row xs ys =
     and_swap false true = refl
     and_swap false false = refl
 
-pub first_row-other : (xs ys : List ℕ) → is_settled xs ys ≡ true → first_row (other_rows xs ys) ≡ first_row xs
-first_row-other [] ys h = refl
-first_row-other (x ∷ xs) ys h = rw h refl
-
 pub without_first-other : (xs ys : List ℕ) → is_settled xs ys ≡ true → other_rows (without_first xs) ys ≡ without_first (other_rows xs ys)
 without_first-other [] ys h = refl
 without_first-other (x ∷ xs) ys h = rw h refl
-
-pub settled_end : (xs ys : List ℕ) → first_row xs ≡ None → is_settled xs ys ≡ true
-settled_end [] ys e = refl
-settled_end (x ∷ xs) ys e = cc
 
 -- a list that seeks to row and does not begin there lacks it
 pub not_row-from : (row : ℕ) (ys : List ℕ) → IsRising ys → not (is_first (rows_from row ys) row) ≡ true → is_row_of (rows_from row ys) row ≡ false
@@ -311,6 +284,12 @@ settled_here x [] ys e h other = refl
 settled_here x (z ∷ xs) ys e h other = let same : z ≡ x = cc in rw (same, not_row-from x ys h other) refl
 
 -- Unions
+
+-- the lower of two rows, where there are two
+abbrev pub lower_row : Option ℕ → Option ℕ → Option ℕ
+lower_row None b = b
+lower_row (Some x) None = Some x
+lower_row (Some x) (Some y) = Some (cond (nat_le x y) x y)
 
 pub first_row-with_row : (row : ℕ) (xs : List ℕ) → first_row (with_row row xs) ≡ lower_row (Some row) (first_row xs)
 first_row-with_row row [] = refl

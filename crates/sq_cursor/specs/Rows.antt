@@ -34,12 +34,6 @@ abbrev pub HasRow : List ℕ → Type 0
 HasRow [] = ⊥
 HasRow (x ∷ xs) = ⊤
 
--- the lower of two rows, where there are two
-abbrev pub lower_row : Option ℕ → Option ℕ → Option ℕ
-lower_row None b = b
-lower_row (Some x) None = Some x
-lower_row (Some x) (Some y) = Some (cond (nat_le x y) x y)
-
 -- the rows that are not below row
 abbrev pub rows_from : ℕ → List ℕ → List ℕ
 rows_from row xs = filter (nat_le row) xs
@@ -55,11 +49,6 @@ common_rows xs ys = filter (is_row_of ys) xs
 -- the rows of xs that are not rows of ys
 abbrev pub other_rows : List ℕ → List ℕ → List ℕ
 other_rows xs ys = filter (λ row. not (is_row_of ys row)) xs
-
--- the list without its first row, where that is row
-abbrev pub without_row_first : ℕ → List ℕ → List ℕ
-without_row_first row [] = []
-without_row_first row (x ∷ xs) = cond (eqb x row) xs (x ∷ xs)
 
 -- both lists begin with one row, or one of them is empty
 abbrev pub is_aligned : List ℕ → List ℕ → Bool
@@ -85,11 +74,6 @@ with_rows (x ∷ xs) ys = with_row x (with_rows xs ys)
 abbrev pub union_of : List (List ℕ) → List ℕ
 union_of [] = []
 union_of (xs ∷ lists) = with_rows xs (union_of lists)
-
--- every list rises
-abbrev pub AllRise : List (List ℕ) → Type 0
-AllRise [] = ⊤
-AllRise (xs ∷ lists) = IsRising xs × AllRise lists
 
 pub AllAbove-filter : (low : ℕ) (p : ℕ → Bool) (xs : List ℕ) → AllAbove low xs → AllAbove low (filter p xs)
 AllAbove-filter low p [] h = tt
