@@ -1,0 +1,6 @@
+pub mod CorpusText
+pub mod Escapes
+pub mod Lines
+pub mod Pieces
+pub mod Reads
+pub mod Words
