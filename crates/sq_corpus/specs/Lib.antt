@@ -1,5 +1,6 @@
 pub mod CorpusText
 pub mod Escapes
+pub mod Keeps
 pub mod Lines
 pub mod Pieces
 pub mod Reads

@@ -106,6 +106,9 @@ item_of number rank url = record { number = number; rank = rank; url = url; allo
 abbrev pub items_of : Before → List Item
 items_of before = before.items ++ option_to_list before.item
 
+abbrev pub closed : Before → Before
+closed before = record before { items = items_of before; item = None }
+
 unfoldable pub with_url : Before → ℕ → ℤ → Option (List ℕ) → Result Before ℕ
 with_url before number rank None = Err 607
 with_url before number rank (Some url) =
@@ -133,13 +136,17 @@ abbrev pub if_faultless : Option ℕ → Before → Result Before ℕ
 if_faultless (Some code) after = Err code
 if_faultless None after = Ok after
 
+abbrev pub allowed : Before → List (List ℕ) → Before
+allowed before claims = record before { stage = BeforeDeny; item = option_map (allowing claims) before.item }
+
+abbrev pub denied : Before → List (List ℕ) → Before
+denied before claims = record before { stage = InValues; item = option_map (denying claims) before.item }
+
 unfoldable pub with_allow : Before → List (List ℕ) → Result Before ℕ
-with_allow before claims = if_faultless (list_fault claims)
-    (record before { stage = BeforeDeny; item = option_map (allowing claims) before.item })
+with_allow before claims = if_faultless (list_fault claims) (allowed before claims)
 
 unfoldable pub with_deny : Before → List (List ℕ) → Result Before ℕ
-with_deny before claims = if_faultless (list_fault claims)
-    (record before { stage = InValues; item = option_map (denying claims) before.item })
+with_deny before claims = if_faultless (list_fault claims) (denied before claims)
 
 -- A value: its property's name, and its text.
 

@@ -2,7 +2,14 @@
 #![tactic(auto)]
 
 mod before;
+mod counts;
+mod escapes;
 mod fault;
+mod names;
+mod pieces;
+mod reader;
+mod rows;
+mod values;
 mod words;
 
 pub use fault::CorpusFault;
