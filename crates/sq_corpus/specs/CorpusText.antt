@@ -32,10 +32,13 @@ may_end InValues = true
 abbrev pub corpus_after : Before → Corpus
 corpus_after before = record { schema = before.rows; callers = before.callers; items = items_of before }
 
+abbrev pub code_of_rest : List ℕ → ℕ
+code_of_rest rest = if is_utf8 rest then 602 else 601
+
 -- the text ends with what stands behind its last LF; anything there is a line without its LF
 unfoldable pub at_end : ℕ → Before → List ℕ → Result Corpus LineFault
 at_end line before [] = if may_end before.stage then Ok (corpus_after before) else faulty 602 line
-at_end line before (byte ∷ bytes) = faulty (if is_utf8 (byte ∷ bytes) then 602 else 601) line
+at_end line before (byte ∷ bytes) = faulty (code_of_rest (byte ∷ bytes)) line
 
 -- the lines from this one on, of which the first has this number
 abbrev pub corpus_from : ℕ → Before → List (List ℕ) → Result Corpus LineFault

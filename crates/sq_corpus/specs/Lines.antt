@@ -186,15 +186,20 @@ value_of property content = record { property = property; content = content }
 abbrev pub holding : Value → Item → Item
 holding value item = record item { values = item.values ++ value ∷ [] }
 
+abbrev pub held : Before → Value → Before
+held before value = record before { item = option_map (holding value) before.item }
+
+-- a bad value has 605 beside its code where it would be a second one
+unfoldable pub refused_content : Bool → ℕ → ℕ → ℕ
+refused_content multi earlier code = if not multi && nat_lt 0 earlier then min code 605 else code
+
 -- the value behind so many earlier ones of its property
 unfoldable pub with_content : Before → ℕ → Bool → ℕ → Result Content ℕ → Result Before ℕ
-with_content before property multi earlier (Err code) = if not multi && nat_lt 0 earlier then Err (min code 605) else Err code
+with_content before property multi earlier (Err code) = Err (refused_content multi earlier code)
 with_content before property multi earlier (Ok content) =
     if not multi && nat_lt 0 earlier then Err 605
     else (if nat_le 1_000 earlier then Err 608
-    else Ok (record before {
-      item = option_map (holding (value_of property content)) before.item
-    }))
+    else Ok (held before (value_of property content)))
 
 unfoldable pub with_value_of : Before → ℕ → Option Property → List ℕ → Result Before ℕ
 with_value_of before property None field = Err 604
@@ -225,8 +230,10 @@ abbrev pub at_most_607 : Result Before ℕ → Result Before ℕ
 at_most_607 (Ok after) = Err 607
 at_most_607 (Err code) = Err (min code 607)
 
+abbrev pub with_text : Before → List ℕ → Result Before ℕ
+with_text before line =
+    if is_xml_text line then with_fields before (fields_of line) else at_most_607 (with_fields before (fields_of line))
+
 -- what stands after the line, or its lowest code
 unfoldable pub with_line : Before → List ℕ → Result Before ℕ
-with_line before line =
-    if not (is_utf8 line) then Err 601
-    else (if is_xml_text line then with_fields before (fields_of line) else at_most_607 (with_fields before (fields_of line)))
+with_line before line = if is_utf8 line then with_text before line else Err 601

@@ -7,9 +7,11 @@ mod escapes;
 mod fault;
 mod names;
 mod pieces;
+mod read;
 mod reader;
 mod rows;
 mod values;
 mod words;
 
 pub use fault::CorpusFault;
+pub use read::read_corpus;

@@ -1,4 +1,4 @@
-ghost use Rattle.std.specs.Prelude.{◌≡◌, ◌<◌, ◌≤◌, ◌^◌, map, length, slice_index, slice_get, position, IfOk, OnOk, Some, None};
+ghost use Rattle.std.specs.Prelude.{◌≡◌, ◌<◌, ◌≤◌, ◌^◌, map, length, slice_index, slice_get, position, IfSome, IfOk, OnOk, Some, None, Ok};
 ghost use Rattle.sq_model.specs.Valid.{count_of};
 ghost use Rattle.sq_schema.specs.Properties.{has_name};
 ghost use Rattle.sq_corpus.specs.Escapes.{text_of};
@@ -7,7 +7,7 @@ ghost use Rattle.sq_corpus.specs.Keeps.{IsKept};
 ghost use Rattle.sq_corpus.specs.Lines as spec;
 ghost use Rattle.sq_corpus.specs.Reads.{Gives, Takes};
 
-use crate::before::{Before, Stage, close, set_allow, set_deny};
+use crate::before::{Before, Stage, close, may_stand, set_allow, set_deny};
 use crate::counts::{add_one, count_at};
 use crate::escapes::text_of;
 use crate::fault::Refusal;
@@ -233,5 +233,244 @@ impl Reader {
                 Ok(())
             }
         }
+    }
+
+    #[tactic(auto, unfolding(crate::specs::Lines::with_content))]
+    fn take_content(
+        &mut self,
+        property: u32,
+        multi: bool,
+        earlier: u32,
+        content: Content,
+    ) -> Result<(), Refusal>
+        requires kept { IsKept self.old }
+        requires earlier { earlier ≡ slice_index self.old.counts.items property }
+        ensures takes { Takes (spec.with_content self.old.before property multi earlier (Ok content)) self.new.before result }
+        ensures kept { OnOk result (IsKept self.new) }
+    {
+        if !multi && earlier > 0 {
+            Err(Refusal::Code(605))
+        } else if earlier >= VALUE_LIMIT {
+            Err(Refusal::Code(608))
+        } else {
+            self.hold(Value { property, content })
+        }
+    }
+
+    fn hold(&mut self, value: Value) -> Result<(), Refusal>
+        requires kept { IsKept self.old }
+        requires few { slice_index self.old.counts.items value.property < 1_000 }
+        ensures takes { Takes (Ok (spec.held self.old.before value)) self.new.before result }
+        ensures kept { OnOk result (IsKept self.new) }
+    {
+        if let Some(item) = &mut self.before.item {
+            add_one(&mut self.counts, value.property as usize)?;
+            item.values.push(value)?;
+        }
+        Ok(())
+    }
+
+    #[tactic(auto, unfolding(crate::specs::Lines::with_content))]
+    fn take_field(
+        &mut self,
+        alloc: Global,
+        property: u32,
+        kind: Kind,
+        multi: bool,
+        field: &str,
+    ) -> Result<(), Refusal>
+        requires { IsKept self.old }
+        ensures takes { Takes (spec.with_content self.old.before property multi (count_of (spec.values_of self.old.before.item) property)
+            (spec.content_of kind field.now)) self.new.before result }
+        ensures kept { OnOk result (IsKept self.new) }
+    {
+        let earlier = count_at(&self.counts, property as usize);
+        match content_of(alloc, kind, field) {
+            Ok(content) => self.take_content(property, multi, earlier, content),
+            Err(Refusal::Code(code)) => Err(Refusal::Code(refused_code(code, multi, earlier))),
+            Err(Refusal::Memory) => Err(Refusal::Memory),
+        }
+    }
+
+    #[tactic(auto, unfolding(crate::specs::Lines::with_value_of, crate::specs::Lines::with_value))]
+    fn take_value(
+        &mut self,
+        alloc: Global,
+        property: Option<usize>,
+        field: &str,
+    ) -> Result<(), Refusal>
+        requires kept { IsKept self.old }
+        requires within { IfSome property (λ at. at < length self.old.before.rows) }
+        ensures takes { Takes (spec.with_value self.old.before property field.now) self.new.before result }
+        ensures kept { OnOk result (IsKept self.new) }
+    {
+        match property {
+            Some(property) => match self.before.rows.as_slice().get(property) {
+                Some(row) => {
+                    let kind = row.kind;
+                    let multi = row.multi;
+                    self.take_field(alloc, property as u32, kind, multi, field)
+                }
+                None => Err(Refusal::Code(604)),
+            },
+            None => Err(Refusal::Code(604)),
+        }
+    }
+
+    #[tactic(auto, unfolding(crate::specs::Lines::with_known))]
+    fn take_heading(&mut self, fields: &[&str]) -> Result<(), Refusal>
+        requires { IsKept self.old }
+        ensures takes { Takes (spec.with_known self.old.before LineKind.Heading (map (λ field. field.now) fields.now)) self.new.before result }
+        ensures kept { OnOk result (IsKept self.new) }
+    {
+        match fields {
+            [] => {
+                self.before.stage = Stage::InProperties;
+                Ok(())
+            }
+            _ => Err(Refusal::Code(602)),
+        }
+    }
+
+    #[tactic(auto, unfolding(crate::specs::Lines::with_known))]
+    fn take_property_row(&mut self, alloc: Global, fields: &[&str]) -> Result<(), Refusal>
+        requires { IsKept self.old }
+        ensures takes { Takes (spec.with_known self.old.before LineKind.PropertyRow (map (λ field. field.now) fields.now)) self.new.before result }
+        ensures kept { OnOk result (IsKept self.new) }
+    {
+        match fields {
+            [name, kind, flags] => self.take_property(alloc, name, kind_of(kind), flags_of(flags)),
+            _ => Err(Refusal::Code(602)),
+        }
+    }
+
+    #[tactic(auto, unfolding(crate::specs::Lines::with_known))]
+    fn take_caller_row(&mut self, alloc: Global, fields: &[&str]) -> Result<(), Refusal>
+        requires { IsKept self.old }
+        ensures takes { Takes (spec.with_known self.old.before LineKind.CallerRow (map (λ field. field.now) fields.now)) self.new.before result }
+        ensures kept { OnOk result (IsKept self.new) }
+    {
+        match fields {
+            [name, claims @ ..] => self.take_caller(alloc, name, claims),
+            [] => Err(Refusal::Code(602)),
+        }
+    }
+
+    #[tactic(auto, unfolding(crate::specs::Lines::with_known))]
+    fn take_item_head(&mut self, alloc: Global, fields: &[&str]) -> Result<(), Refusal>
+        requires { IsKept self.old }
+        ensures takes { Takes (spec.with_known self.old.before LineKind.ItemHead (map (λ field. field.now) fields.now)) self.new.before result }
+        ensures kept { OnOk result (IsKept self.new) }
+    {
+        match fields {
+            [number, rank, url] => self.take_item(alloc, item_number(number), rank_of(rank), url),
+            _ => Err(Refusal::Code(602)),
+        }
+    }
+
+    #[tactic(auto, unfolding(crate::specs::Lines::with_known))]
+    fn take_value_row(&mut self, alloc: Global, fields: &[&str]) -> Result<(), Refusal>
+        requires { IsKept self.old }
+        ensures takes { Takes (spec.with_known self.old.before LineKind.ValueRow (map (λ field. field.now) fields.now)) self.new.before result }
+        ensures kept { OnOk result (IsKept self.new) }
+    {
+        match fields {
+            [name, field] => {
+                let property = position_of(self.before.rows.as_slice(), name);
+                self.take_value(alloc, property, field)
+            }
+            _ => Err(Refusal::Code(602)),
+        }
+    }
+
+    #[tactic(auto, unfolding(crate::specs::Lines::with_known))]
+    fn take_known(
+        &mut self,
+        alloc: Global,
+        kind: LineKind,
+        fields: &[&str],
+    ) -> Result<(), Refusal>
+        requires { IsKept self.old }
+        ensures takes { Takes (spec.with_known self.old.before kind (map (λ field. field.now) fields.now)) self.new.before result }
+        ensures kept { OnOk result (IsKept self.new) }
+    {
+        match kind {
+            LineKind::Heading => self.take_heading(fields),
+            LineKind::PropertyRow => self.take_property_row(alloc, fields),
+            LineKind::CallerRow => self.take_caller_row(alloc, fields),
+            LineKind::ItemHead => self.take_item_head(alloc, fields),
+            LineKind::AllowList => self.take_allow(alloc, fields),
+            LineKind::DenyList => self.take_deny(alloc, fields),
+            LineKind::ValueRow => self.take_value_row(alloc, fields),
+            LineKind::Unknown => Err(Refusal::Code(602)),
+        }
+    }
+
+    #[tactic(auto, unfolding(crate::specs::Lines::with_fields))]
+    fn take_fields(&mut self, alloc: Global, fields: &[&str]) -> Result<(), Refusal>
+        requires { IsKept self.old }
+        ensures takes { Takes (spec.with_fields self.old.before (map (λ field. field.now) fields.now)) self.new.before result }
+        ensures kept { OnOk result (IsKept self.new) }
+    {
+        match fields {
+            [word, rest @ ..] => {
+                let kind = line_kind(word);
+                if may_stand(self.before.stage, kind) {
+                    self.take_known(alloc, kind, rest)
+                } else {
+                    Err(Refusal::Code(602))
+                }
+            }
+            [] => Err(Refusal::Code(602)),
+        }
+    }
+
+    fn take_unclean(&mut self, alloc: Global, fields: &[&str]) -> Result<(), Refusal>
+        requires { IsKept self.old }
+        ensures takes { Takes (spec.at_most_607 (spec.with_fields self.old.before (map (λ field. field.now) fields.now))) self.new.before result }
+        ensures kept { OnOk result (IsKept self.new) }
+    {
+        match self.take_fields(alloc, fields) {
+            Ok(()) => Err(Refusal::Code(607)),
+            Err(Refusal::Code(code)) => Err(Refusal::Code(code.min(607))),
+            Err(Refusal::Memory) => Err(Refusal::Memory),
+        }
+    }
+
+    fn take_text(&mut self, alloc: Global, line: &str) -> Result<(), Refusal>
+        requires { IsKept self.old }
+        ensures takes { Takes (spec.with_text self.old.before line.now) self.new.before result }
+        ensures kept { OnOk result (IsKept self.new) }
+    {
+        let fields = fields_of(alloc, line)?;
+        if is_xml_text(line) {
+            self.take_fields(alloc, fields.as_slice())
+        } else {
+            self.take_unclean(alloc, fields.as_slice())
+        }
+    }
+
+    /// Takes the next line, or refuses it with its lowest code.
+    #[tactic(auto, unfolding(crate::specs::Lines::with_line))]
+    pub(crate) fn take_line(&mut self, alloc: Global, line: &[u8]) -> Result<(), Refusal>
+        requires { IsKept self.old }
+        ensures takes { Takes (spec.with_line self.old.before line.now) self.new.before result }
+        ensures kept { OnOk result (IsKept self.new) }
+    {
+        match str::from_utf8(line) {
+            Ok(text) => self.take_text(alloc, text),
+            Err(_) => Err(Refusal::Code(601)),
+        }
+    }
+}
+
+#[tactic(auto, unfolding(crate::specs::Lines::refused_content))]
+fn refused_code(code: u16, multi: bool, earlier: u32) -> u16
+    ensures { result ≡ spec.refused_content multi earlier code }
+{
+    if !multi && earlier > 0 {
+        code.min(605)
+    } else {
+        code
     }
 }

@@ -46,7 +46,7 @@ returns-then-is_escape-2 c =
 
 pub returns : goal.returns
 returns c =
-    let copied = c.in_ok-text.ensures ∙ c.deref.ensures.value in
+    let copied = c.in_ok-text.ensures ∙ c.deref.ensures in
     ap (λ t. Some t) copied
     ∙ end-plain (string_bytes c.loop-c.text) (chars_rest c.loop-c.c-iterator) c.loop-c.is_escape _ c.in-None.ensures.steps.0.0
     c.if-is_escape-2.false c.loop-c.invariant.1
