@@ -56,7 +56,6 @@ from_cons number before line (next ∷ rest) begins = refl
 -- The first line is cut off the lines that are left.
 module _ (number : ℕ) (before : Before) (line behind : List ℕ) (whole : Result Corpus LineFault) (all : List (List ℕ))
     (cut : all ≡ line ∷ lines_of behind) (kept : corpus_from number before all ≡ whole) where
-
   opened : after_line number (lines_of behind) (with_line before line) ≡ whole
   opened = sym (from_cons number before line (lines_of behind) (begins_pieces 10 behind)) ∙ (rw cut at kept)
 

@@ -6,7 +6,11 @@ use std::alloc::AllocError;
 pub(crate) fn count_at(counts: &[u32], place: usize) -> u32
     ensures { result ≡ slice_index counts.now place }
 {
-    if place < counts.len() { counts[place] } else { 0 }
+    if place < counts.len() {
+        counts[place]
+    } else {
+        0
+    }
 }
 
 /// Adds 1 at a place.

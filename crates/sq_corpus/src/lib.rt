@@ -15,3 +15,6 @@ mod words;
 
 pub use fault::CorpusFault;
 pub use read::read_corpus;
+
+#[cfg(test)]
+mod tests;

@@ -54,12 +54,7 @@ fn fault_at(refusal: Refusal, line: u32) -> CorpusFault
     }
 }
 
-fn end_of(
-    alloc: Global,
-    before: Before,
-    line: u32,
-    rest: &[u8],
-) -> Result<Corpus, CorpusFault>
+fn end_of(alloc: Global, before: Before, line: u32, rest: &[u8]) -> Result<Corpus, CorpusFault>
     ensures { reads.IsAnswer (spec.at_end line before rest.now) result }
 {
     match rest {

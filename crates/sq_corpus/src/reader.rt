@@ -23,8 +23,11 @@ use std::alloc::Global;
 use std::collections::BTreeSet;
 
 const ROW_LIMIT: usize = 64;
+
 const CALLER_LIMIT: usize = 10_000;
+
 const ITEM_LIMIT: usize = 1_000_000;
+
 const VALUE_LIMIT: u32 = 1_000;
 
 /// Reads one line after another. After a refusal it is of no use.
@@ -384,12 +387,7 @@ impl Reader {
     }
 
     #[tactic(auto, unfolding(crate::specs::Lines::with_known))]
-    fn take_known(
-        &mut self,
-        alloc: Global,
-        kind: LineKind,
-        fields: &[&str],
-    ) -> Result<(), Refusal>
+    fn take_known(&mut self, alloc: Global, kind: LineKind, fields: &[&str]) -> Result<(), Refusal>
         requires { IsKept self.old }
         ensures takes { Takes (spec.with_known self.old.before kind (map (λ field. field.now) fields.now)) self.new.before result }
         ensures kept { OnOk result (IsKept self.new) }

@@ -17,9 +17,13 @@ use sq_schema::{Kind, day_interval, number};
 use std::alloc::{AllocError, Global};
 
 const NAME_LIMIT: usize = 128;
+
 const LAST_NUMBER: i64 = 4_294_967_294;
+
 const LAST_RANK: i64 = 1_000_000_000;
+
 const CLAIM_LIMIT: usize = 64;
+
 const DATE_BYTES: usize = 10;
 
 fn has_no_control(text: &str) -> bool

@@ -16,8 +16,8 @@ loop-c-preserved-then-is_escape c =
     let cut = c.in-Some.ensures.steps.0 in (
       IsUtf8-past_char _ _ c.in-Some.c held.0 cut,
       rw c.in_ok-push-in-Some-escaped.ensures.bytes
-        (step-meant (string_bytes c.loop-c.text) (chars_rest c.loop-c.c-iterator) (chars_rest c.next.new.self) c.in-Some.c _ held.0 cut
-        c.loop-c.is_escape c.in-Some-escaped.meant c.if-is_escape.true c.in-Some-escaped.ensures held.1),
+          (step-meant (string_bytes c.loop-c.text) (chars_rest c.loop-c.c-iterator) (chars_rest c.next.new.self) c.in-Some.c _ held.0 cut
+          c.loop-c.is_escape c.in-Some-escaped.meant c.if-is_escape.true c.in-Some-escaped.ensures held.1),
     )
 
 pub loop-c-preserved-then-c-eq92 : goal.loop-c-preserved-then-c-eq92
@@ -26,7 +26,7 @@ loop-c-preserved-then-c-eq92 c =
     let cut = c.in-Some.ensures.steps.0 in (
       IsUtf8-past_char _ _ c.in-Some.c held.0 cut,
       step-backslash (string_bytes c.loop-c.text) (chars_rest c.loop-c.c-iterator) (chars_rest c.next.new.self) c.in-Some.c _ held.0 cut
-      c.loop-c.is_escape c.if-is_escape.false c.if-c-eq92.true held.1,
+          c.loop-c.is_escape c.if-is_escape.false c.if-c-eq92.true held.1,
     )
 
 pub loop-c-preserved : goal.loop-c-preserved
@@ -35,8 +35,8 @@ loop-c-preserved c =
     let cut = c.in-Some.ensures.steps.0 in (
       IsUtf8-past_char _ _ c.in-Some.c held.0 cut,
       rw c.in_ok-push.ensures.bytes
-        (step-plain (string_bytes c.loop-c.text) (chars_rest c.loop-c.c-iterator) (chars_rest c.next.new.self) c.in-Some.c _ held.0 cut
-        c.loop-c.is_escape c.if-is_escape.false c.if-c-eq92.false held.1),
+          (step-plain (string_bytes c.loop-c.text) (chars_rest c.loop-c.c-iterator) (chars_rest c.next.new.self) c.in-Some.c _ held.0 cut
+          c.loop-c.is_escape c.if-is_escape.false c.if-c-eq92.false held.1),
     )
 
 pub returns-then-is_escape-2 : goal.returns-then-is_escape-2

@@ -6,7 +6,7 @@ pub loop-line-preserved : goal.loop-line-preserved
 loop-line-preserved c =
     let held = c.loop-line.invariant in (
       step-taken c.loop-line.number c.loop-line.reader.before c.in-Some.line.now c.in-Some.behind.now _ _ c.in-Some.ensures.0 held.0
-      c.take_line.new.self.before c.in-Ok.ensures.takes,
+          c.take_line.new.self.before c.in-Ok.ensures.takes,
       c.in-Ok.ensures.kept,
       omega (arith, held.2, c.in-Some.ensures.1),
     )
