@@ -1,0 +1,4 @@
+pub mod EscapeLemmas
+pub mod KeptLemmas
+pub mod LineLemmas
+pub mod PieceLemmas

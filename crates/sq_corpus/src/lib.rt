@@ -1,0 +1,20 @@
+//! The text of a corpus, read exactly.
+#![tactic(auto)]
+
+mod before;
+mod counts;
+mod escapes;
+mod fault;
+mod names;
+mod pieces;
+mod read;
+mod reader;
+mod rows;
+mod values;
+mod words;
+
+pub use fault::CorpusFault;
+pub use read::read_corpus;
+
+#[cfg(test)]
+mod tests;

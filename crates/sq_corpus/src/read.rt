@@ -1,0 +1,108 @@
+ghost use Rattle.std.specs.Prelude.{◌≡◌, ◌≤◌, length, IfOk};
+ghost use Rattle.sq_corpus.specs.CorpusText as spec;
+ghost use Rattle.sq_corpus.specs.Reads as reads;
+
+use crate::CorpusFault;
+use crate::before::{Before, Stage, close};
+use crate::fault::Refusal;
+use crate::pieces::first_line;
+use crate::reader::Reader;
+use sq_model::Corpus;
+use sq_schema::Schema;
+use std::alloc::{AllocError, Global};
+
+fn may_end(stage: Stage) -> bool
+    ensures { result ≡ spec.may_end stage }
+{
+    matches!(
+        stage,
+        Stage::InProperties | Stage::InCallers | Stage::InValues
+    )
+}
+
+fn corpus_after(alloc: Global, before: Before) -> Result<Corpus, AllocError>
+    ensures { IfOk result (λ corpus. corpus ≡ spec.corpus_after before) }
+{
+    let mut before = before;
+    close(&mut before)?;
+    match Schema::new(alloc, before.rows.into_vec()) {
+        Ok(schema) => Ok(Corpus {
+            schema,
+            callers: before.callers,
+            items: before.items,
+        }),
+        // No row has a fault, since each was taken as a schema takes it.
+        Err(_) => Err(AllocError),
+    }
+}
+
+fn code_of_rest(rest: &[u8]) -> u16
+    ensures { result ≡ spec.code_of_rest rest.now }
+{
+    match str::from_utf8(rest) {
+        Ok(_) => 602,
+        Err(_) => 601,
+    }
+}
+
+fn fault_at(refusal: Refusal, line: u32) -> CorpusFault
+    ensures { result ≡ reads.fault_at refusal line }
+{
+    match refusal {
+        Refusal::Code(code) => CorpusFault::Line { code, line },
+        Refusal::Memory => CorpusFault::NoMemory,
+    }
+}
+
+fn end_of(alloc: Global, before: Before, line: u32, rest: &[u8]) -> Result<Corpus, CorpusFault>
+    ensures { reads.IsAnswer (spec.at_end line before rest.now) result }
+{
+    match rest {
+        [] => {
+            if may_end(before.stage) {
+                match corpus_after(alloc, before) {
+                    Ok(corpus) => Ok(corpus),
+                    Err(_) => Err(CorpusFault::NoMemory),
+                }
+            } else {
+                Err(CorpusFault::Line { code: 602, line })
+            }
+        }
+        _ => Err(CorpusFault::Line {
+            code: code_of_rest(rest),
+            line,
+        }),
+    }
+}
+
+/// The corpus that a text spells. Else the first faulty line, and the lowest code there:
+///
+/// | Code | Where |
+/// |---|---|
+/// | 601 | the line isn't UTF-8 |
+/// | 602 | it isn't of its form, or may not stand there, or the text ends too early |
+/// | 603 | a number is bad or out of its range |
+/// | 604 | the property is unknown |
+/// | 605 | a property's or a caller's name, or the value of a property that isn't multi, is there already |
+/// | 606 | an item's number isn't above the one before |
+/// | 607 | a bad escape, date, yes-no value, name or claim, or a character that XML doesn't have |
+/// | 608 | there are too many of them |
+#[tactic(auto, unfolding(crate::specs::CorpusText::corpus_of))]
+pub fn read_corpus(alloc: Global, bytes: &[u8]) -> Result<Corpus, CorpusFault>
+    requires { length bytes.now ≤ 67_108_864 }
+    ensures { reads.Reads bytes.now result }
+{
+    let mut reader = Reader::new(alloc);
+    let mut rest = bytes;
+    let mut number = 1u32;
+    while let Some((line, behind)) = first_line(rest) {
+        match reader.take_line(alloc, line) {
+            Ok(()) => {
+                rest = behind;
+                number += 1;
+            }
+            Err(refusal) => return Err(fault_at(refusal, number)),
+        }
+    }
+    end_of(alloc, reader.into_before(), number, rest)
+}

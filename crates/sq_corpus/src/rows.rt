@@ -1,0 +1,61 @@
+ghost use Rattle.std.specs.Prelude.{◌≡◌, ◌<◌, length, position, IfOk, IfSome};
+ghost use Rattle.std.specs.List.{list_any};
+ghost use Rattle.sq_schema.specs.Properties as properties;
+ghost use Rattle.sq_corpus.specs.Lines as spec;
+
+use crate::words::Flags;
+use sq_base::Text;
+use sq_schema::{Kind, Property, Schema};
+use std::alloc::{AllocError, Global};
+
+/// The row of a schema that a line's fields say.
+pub(crate) fn row_of(
+    alloc: Global,
+    name: &str,
+    kind: Kind,
+    flags: Flags,
+) -> Result<Property, AllocError>
+    ensures { IfOk result (λ row. row ≡ spec.row_of name.now kind flags) }
+{
+    Ok(Property {
+        name: Text::from_str(alloc, name)?,
+        kind,
+        searchable: flags.searchable,
+        multi: flags.multi,
+        refinable: flags.refinable,
+    })
+}
+
+/// Whether a schema takes the row by itself.
+pub(crate) fn is_sound(alloc: Global, row: Property) -> Result<bool, AllocError>
+    ensures { IfOk result (λ sound. sound ≡ properties.is_sound row) }
+{
+    let mut rows = Vec::new(alloc);
+    rows.push(row)?;
+    match Schema::new(alloc, rows) {
+        Ok(_) => Ok(true),
+        Err(_) => Ok(false),
+    }
+}
+
+#[tactic(auto, unfolding(sq_schema::specs::Properties::has_name, sq_schema::specs::Words::is_same_word))]
+fn has_name(row: &Property, name: &str) -> bool
+    ensures { result ≡ properties.has_name name.now row.now }
+{
+    row.name.as_str().eq_ignore_ascii_case(name)
+}
+
+/// Whether an earlier row has the name, where the case of ASCII letters does not count.
+pub(crate) fn is_taken(rows: &[Property], name: &str) -> bool
+    ensures { result ≡ list_any (properties.has_name name.now) rows.now }
+{
+    rows.iter().any(|row| has_name(row, name))
+}
+
+/// The first row of that name.
+pub(crate) fn position_of(rows: &[Property], name: &str) -> Option<usize>
+    ensures value { result ≡ position (properties.has_name name.now) rows.now }
+    ensures within { IfSome result (λ at. at < length rows.now) }
+{
+    rows.iter().position(|row| has_name(row, name))
+}
