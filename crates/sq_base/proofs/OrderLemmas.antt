@@ -55,10 +55,12 @@ module _ {X : Type 0} (before : X → X → Bool) (order : IsStrictWeakOrder bef
   found x [] some = absurd (some refl)
   found x (y ∷ ys) some =
       elim (before x y) as (λ b. before x y ≡ b → Split x (y ∷ ys)) [
-        true ↦ λ is. further x y ys (found x ys (behind_of before x y ys some (grind (arith, is))))
-      | false ↦ λ is. elim (before y x) as (λ b. before y x ≡ b → Split x (y ∷ ys)) [
-          true ↦ λ back. further x y ys (found x ys (behind_of before x y ys some (grind (arith, is, back))))
-        | false ↦ λ back. record { front = []; behind = ys; whole = ap (λ z. z ∷ ys) (same y x back is) } ] refl ] refl
+        | true ↦ λ is. further x y ys (found x ys (behind_of before x y ys some (grind (arith, is))))
+        | false ↦ λ is. elim (before y x) as (λ b. before y x ≡ b → Split x (y ∷ ys)) [
+          | true ↦ λ back. further x y ys (found x ys (behind_of before x y ys some (grind (arith, is, back))))
+          | false ↦ λ back. record { front = []; behind = ys; whole = ap (λ z. z ∷ ys) (same y x back is) }
+        ] refl
+      ] refl
 
   permuted : (xs ys : List X) → SameSums xs ys → in_order before xs ≡ in_order before ys
   permuted [] [] sums = refl
