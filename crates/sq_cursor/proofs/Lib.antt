@@ -1,4 +1,5 @@
 pub mod EntryLemmas
+pub mod Examples
 pub mod HeapLemmas
 pub mod RowLemmas
 pub mod SpanLemmas
