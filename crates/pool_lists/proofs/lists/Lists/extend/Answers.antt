@@ -1,4 +1,4 @@
-use Rattle.std.proofs.Common.{◌≡◌, ◌∙◌, ◌<◌, ◌++◌, ◌∷◌, [], length, get_or, set, map, sym, ap, subst, arith}
+use Rattle.std.proofs.Common.{◌≡◌, ◌∙◌, ◌<◌, ◌++◌, [], length, get_or, set, map, sym, ap, subst, arith}
 use Rattle.std.proofs.lemmas.List.{get_or-map, set-get_or, get_or_default, length-map}
 use Rattle.sq_pool.specs.Pool.{IsLive, words_of, OthersStay}
 use Rattle.pool_lists.specs.Lists.{AreLists}
