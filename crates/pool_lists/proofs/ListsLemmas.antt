@@ -1,11 +1,23 @@
--- Lemmas on lists that are chains of one pool, of which the last is freed.
-use Rattle.std.proofs.Common.{◌≡◌, ◌≢◌, ℕ, ◌+◌, ◌-◌, ◌<◌, List, [], ◌∷◌, ◌++◌, length, take, get_or, map, sym, subst, ap, ◌∙◌, arith, length-append}
+-- Lemmas on lists that are chains of one pool, of which one grows or the last is freed.
+use Rattle.std.proofs.Common.{◌≡◌, ◌≢◌, ℕ, ◌-◌, ◌<◌, List, [], ◌∷◌, ◌++◌, length, take, get_or, map, inl, inr, sym, subst, ◌∙◌, arith, length-append}
 use Rattle.std.proofs.lemmas.List.{map-append, get_or_append_left, length-map}
+use Rattle.std.proofs.lemmas.Bool.Decides.{eqb_tells}
 use Rattle.std.proofs.Math.Seq.{take-append_seam, get_or-append_seam}
 use Rattle.std.specs.Prelude.{IsSome}
-use Rattle.sq_pool.specs.Pool.{Holding, chain_at, words_of, OthersStay}
+use Rattle.sq_pool.specs.Pool.{Holding, chain_at, IsLive, words_of, OthersStay}
 use Rattle.pool_lists.specs.Lists.{AreLists}
 use Rattle.pool_lists.proofs.MapLemmas.{map_same, words_stay}
+
+-- the chains are live and apart after a call that changes one of them
+pub with_one_changed : (old new : Holding) (chains : List ℕ) (list : ℕ) → AreLists old chains → list < length chains
+    → IsLive new (get_or chains list 0) → OthersStay old new (get_or chains list 0) → AreLists new chains
+with_one_changed old new chains list lists below live others = record {
+  live = λ i less. elim (eqb_tells i list) [
+    | inl same ↦ subst (λ j. IsLive new (get_or chains j 0)) (sym same.1) live
+    | inr differ ↦ subst IsSome (sym (others _ (lists.apart i list less below differ.1))) (lists.live i less)
+  ];
+  apart = lists.apart;
+}
 
 -- a chain before the last is another one
 before_last : (pool : Holding) (chains : List ℕ) (chain : ℕ) → AreLists pool (chains ++ chain ∷ [])

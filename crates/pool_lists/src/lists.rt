@@ -44,14 +44,14 @@ impl Lists {
         Ok(())
     }
 
-    /// Adds a word at the end of a list.
-    pub fn push(&mut self, list: usize, word: u32) -> Result<(), AllocError>
+    /// Adds words at the end of a list.
+    pub fn extend(&mut self, list: usize, words: &[u32]) -> Result<(), AllocError>
         requires list { list < length self.old }
-        requires short { length (slice_index_or self.old list []) + 1 < 2 ^ 32 }
-        ensures ok { OnOk result (self.new ≡ slice_set self.old list (slice_index_or self.old list [] ++ word ∷ [])) }
+        requires short { length (slice_index_or self.old list []) + length words.now < 2 ^ 32 }
+        ensures ok { OnOk result (self.new ≡ slice_set self.old list (slice_index_or self.old list [] ++ words.now)) }
         ensures err { OnErr result (self.new ≡ self.old) }
     {
-        self.pool.append(&mut self.chains[list], &[word])?;
+        self.pool.append(&mut self.chains[list], words)?;
         Ok(())
     }
 

@@ -1,4 +1,4 @@
-use Rattle.std.proofs.Common.{◌≡◌, ◌++◌, ◌∷◌, [], subst}
+use Rattle.std.proofs.Common.{◌++◌, ◌∷◌, [], subst}
 use Rattle.pool_lists.specs.Lists.{AreLists}
 use Rattle.pool_lists.proofs.ListsLemmas.{without_last, words_without_last}
 use Rattle.pool_lists.proofs.lists.Lists.remove_last.Goals as goal
