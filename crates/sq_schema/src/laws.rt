@@ -10,3 +10,8 @@ pub fn names_find_rows()
 pub fn moments_read_back()
     ensures { spec.MomentsReadBack }
 {}
+
+/// What `{}` writes of an `i64`, [`crate::number`] reads as that number.
+pub fn numbers_read_back()
+    ensures { spec.NumbersReadBack }
+{}
