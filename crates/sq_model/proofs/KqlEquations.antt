@@ -120,4 +120,4 @@ module _ (schema : List Property) (values : List Value) where
   unfolding shape-the_row-KTree-0 hidden-the_row-KTree-0 denote.Hole.Carrier.hidden
   kgain_xrank matched ranked cb = ap (λ b. gain schema values matched +ℤ (if b then cb else pos 0)) (or-false (holds schema values ranked))
 
-pub ruleset gain_rules = (kgain_and, kgain_or, kgain_run, kgain_group, kgain_xrank)
+pub ruleset kql_gain_rules = (kgain_and, kgain_or, kgain_run, kgain_group, kgain_xrank)

@@ -1,4 +1,7 @@
-mod KqlEquations
+pub mod FqlEquations
+mod FqlExamples
+pub mod KqlEquations
+mod LookedLemmas
 mod SeenLemmas
 mod Steps
 mod ValidLemmas

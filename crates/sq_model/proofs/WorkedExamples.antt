@@ -38,12 +38,12 @@ abbrev placed : ℕ → List (List ℕ) → List Token
 placed at [] = []
 placed at (word ∷ rest) = record { text = word; from = at; to = at + length word } ∷ placed (at + length word + 1) rest
 
-abbrev passage : List ℕ → Passage
+abbrev pub passage : List ℕ → Passage
 passage text = placed 0 (words_after [] text)
 
 -- ---- expressions
 
-abbrev leaf : List ℕ → Leaf
+abbrev pub leaf : List ℕ → Leaf
 leaf text = record { text = text; pattern = record { texts = words_after [] text; prefixed = false } }
 
 abbrev free : List ℕ → KTree
@@ -57,7 +57,7 @@ operand sign tree = record { sign = sign; tree = tree }
 
 -- ---- matches in "merger of the old bank and the new bank"
 
-abbrev merger : Passage
+abbrev pub merger : Passage
 merger = passage (codes "merger of the old bank and the new bank")
 
 abbrev matches : KTree → Bool
@@ -103,10 +103,10 @@ one_value_of_several_in_a_range = refl
 abbrev row : List ℕ → kind.the_data → Bool → Property
 row name kind searchable = record { name = name; kind = kind; searchable = searchable; multi = false; refinable = false }
 
-abbrev schema : List Property
+abbrev pub schema : List Property
 schema = row (codes "title") kind.Text true ∷ row (codes "body") kind.Text true ∷ row (codes "size") kind.Integer false ∷ []
 
-abbrev values_of : List ℕ → List ℕ → ℤ → List Value
+abbrev pub values_of : List ℕ → List ℕ → ℤ → List Value
 values_of heading body size =
     record { property = 0; content = Words heading } ∷ record { property = 1; content = Words body } ∷ record { property = 2; content = Number size } ∷ []
 

@@ -1,8 +1,16 @@
 pub mod Access
+pub mod Copies
+pub mod Fql
+pub mod FqlSound
+pub mod Kinds
 pub mod Kql
+pub mod KqlCopies
+pub mod KqlSound
 pub mod Lists
+pub mod Looked
 pub mod Passages
 pub mod Places
+pub mod Spans
 pub mod TextValues
 pub mod Triples
 pub mod Valid

@@ -1,5 +1,5 @@
 //! The boosts of KQL.
-ghost use Rattle.std.specs.Prelude.{◌≡◌, ◌&&◌, ◌+ℤ◌, if◌then◌else◌, pos, map, IfOk};
+ghost use Rattle.std.specs.Prelude.{◌≡◌, if◌then◌else◌, pos, map, IfOk};
 ghost use Rattle.sq_model.specs.Lists.{total};
 ghost use Rattle.sq_model.specs.TextValues.{text_values};
 ghost use Rattle.sq_model.specs.Kql.{holds, gain, boost, operand_boost, is_counted};
@@ -7,19 +7,10 @@ ghost use Rattle.sq_model.specs.Kql.{holds, gain, boost, operand_boost, is_count
 use crate::corpus::Item;
 use crate::kql::{KOperand, KTree, Sign};
 use crate::kql_holds::holds;
+use crate::sums::add;
 use crate::text_value::TextValue;
 use sq_schema::Schema;
 use std::alloc::{AllocError, Global};
-
-/// Gives up, as for want of memory, where the sum passes 64 bits.
-fn add(m: i64, n: i64) -> Result<i64, AllocError>
-    ensures { IfOk result (λ sum. sum ≡ m +ℤ n) }
-{
-    match m.checked_add(n) {
-        Some(sum) => Ok(sum),
-        None => Err(AllocError),
-    }
-}
 
 fn is_counted(sign: Sign) -> bool
     ensures { result ≡ is_counted sign }
@@ -47,7 +38,7 @@ fn rank_boost(
 }
 
 #[cycle(kql_boost)]
-#[tactic(auto, using(crate::proofs::KqlEquations::gain_rules))]
+#[tactic(auto, using(crate::proofs::KqlEquations::kql_gain_rules))]
 fn gain(
     alloc: Global,
     schema: &Schema,

@@ -3,6 +3,12 @@
 
 mod access;
 mod corpus;
+mod fql;
+mod fql_boost;
+mod fql_holds;
+mod fql_passages;
+mod fql_slow;
+mod fql_spans;
 mod judged;
 mod kql;
 mod kql_boost;
@@ -16,6 +22,7 @@ mod places;
 mod restrictions;
 mod runs;
 mod seen;
+mod sums;
 #[cfg(test)]
 mod tests;
 mod text_value;
@@ -23,6 +30,8 @@ mod triple;
 
 pub use access::admits;
 pub use corpus::{Caller, Content, Corpus, Item, Value};
+pub use fql::{FTree, Look, SpanTree};
+pub use fql_slow::{fql_boost_slow, fql_holds_slow};
 pub use judged::Judged;
 pub use kql::{KOperand, KTree, Relation, Sign};
 pub use kql_slow::{kql_boost_slow, kql_holds_slow};

@@ -2,6 +2,7 @@
 ghost use Rattle.std.specs.Prelude.{◌≡◌, ◌&&◌, int_lt, int_le, IfOk};
 ghost use Rattle.std.specs.List.{list_any};
 ghost use Rattle.sq_model.specs.Passages.{passages, numbers, some_within};
+ghost use Rattle.sq_model.specs.Places.{fits_edge};
 ghost use Rattle.sq_model.specs.TextValues.{text_values, passages_in};
 ghost use Rattle.sq_model.specs.Kql.{compares, reads};
 
@@ -75,17 +76,20 @@ fn some_fits(
     Ok(false)
 }
 
-fn some_equals(
+/// Whether the pattern stands first or last, or both, in one of the property's passages.
+pub fn fits_edge_in(
     alloc: Global,
     pattern: &Pattern,
+    starts: bool,
+    ends: bool,
     texts: &[TextValue],
     property: u32,
 ) -> Result<bool, AllocError>
-    ensures { IfOk result (λ b. b ≡ reads Relation.Equal pattern.now (passages_in texts.now property)) }
+    ensures { IfOk result (λ b. b ≡ list_any (fits_edge pattern.now starts ends) (passages_in texts.now property)) }
 {
     for text in texts {
         if text.property == property {
-            if fits_edge(alloc, pattern, true, true, &text.tokens)? {
+            if fits_edge(alloc, pattern, starts, ends, &text.tokens)? {
                 return Ok(true);
             }
         }
@@ -104,9 +108,9 @@ fn reads(
 {
     match relation {
         Relation::Has => some_fits(alloc, pattern, texts, property),
-        Relation::Equal => some_equals(alloc, pattern, texts, property),
+        Relation::Equal => fits_edge_in(alloc, pattern, true, true, texts, property),
         Relation::Unequal => {
-            let equals = some_equals(alloc, pattern, texts, property)?;
+            let equals = fits_edge_in(alloc, pattern, true, true, texts, property)?;
             Ok(!equals)
         }
         Relation::Less | Relation::More | Relation::AtMost | Relation::AtLeast | Relation::Range =>

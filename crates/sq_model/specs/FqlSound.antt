@@ -1,0 +1,100 @@
+-- Which FQL trees are sound for a schema: what typing gives.
+use Rattle.std.specs.Prelude.{◌≡◌, ℕ, ◌+◌, ◌<◌, nat_le, Bool, true, List, [], ◌∷◌, length, sum}
+use Rattle.sq_schema.specs.declared.property.Property.{Property}
+use Rattle.sq_model.specs.Copies.{copies}
+use Rattle.sq_model.specs.Kinds.{is_text_property, is_number_property, is_boost}
+use Rattle.sq_model.specs.declared.fql.Look.{Look}
+use Rattle.sq_model.specs.declared.fql.Look.TheVariants.{Searchable, One}
+use Rattle.sq_model.specs.declared.fql.SpanTree.{SpanTree, Leaf, Union', Near', Row_of-SpanTree, end_of-SpanTree, more_of-SpanTree}
+use Rattle.sq_model.specs.declared.fql.FTree.{FTree, All, Spans, Count, Edge, Within, And', Or', AndNot', Not', Filter', Xrank', Row_of-FTree, end_of-FTree, more_of-FTree}
+
+abbrev pub is_look : List Property → Look → Bool
+is_look schema Searchable = true
+is_look schema (One property) = is_text_property schema property
+
+abbrev mutual
+  -- no list is empty, and each distance is within its limit
+  pub SpansSound : SpanTree → Type 0
+  SpansSound (Leaf leaf) = Unit {0}
+  SpansSound (Union' shape parts) = SomeSpansSound parts
+  SpansSound (Near' shape parts n ordered) = (nat_le n 1_000 ≡ true) × SomeSpansSound parts
+
+  -- there is a part, and all are sound
+  pub SomeSpansSound : {m : _} → Row_of-SpanTree m → Type 0
+  SomeSpansSound end_of-SpanTree = ⊥
+  SomeSpansSound (more_of-SpanTree part rest) = SpansSound part × EachSpansSound rest
+
+  pub EachSpansSound : {m : _} → Row_of-SpanTree m → Type 0
+  EachSpansSound end_of-SpanTree = Unit {0}
+  EachSpansSound (more_of-SpanTree part rest) = SpansSound part × EachSpansSound rest
+
+abbrev mutual
+  -- no list is empty, and each part is as its schema and the limits want
+  pub PartsSound : List Property → FTree → Type 0
+  PartsSound schema All = Unit {0}
+  PartsSound schema (Spans look tree) = (is_look schema look ≡ true) × SpansSound tree × (nat_le (copies tree) 256 ≡ true)
+  PartsSound schema (Count look leaf from to) = is_look schema look ≡ true
+  PartsSound schema (Edge look leaf starts ends) = is_look schema look ≡ true
+  PartsSound schema (Within property first last) = is_number_property schema property ≡ true
+  PartsSound schema (And' shape parts) = SomeSound schema parts
+  PartsSound schema (Or' shape parts) = SomeSound schema parts
+  PartsSound schema (AndNot' s first t others) = SomeSound schema first × SomeSound schema others
+  PartsSound schema (Not' s inner) = SomeSound schema inner
+  PartsSound schema (Filter' s inner) = SomeSound schema inner
+  PartsSound schema (Xrank' s matched t ranks cb) = SomeSound schema matched × SomeSound schema ranks × (is_boost cb ≡ true)
+
+  -- there is a part, and all are sound
+  pub SomeSound : {m : _} → List Property → Row_of-FTree m → Type 0
+  SomeSound schema end_of-FTree = ⊥
+  SomeSound schema (more_of-FTree part rest) = PartsSound schema part × EachSound schema rest
+
+  pub EachSound : {m : _} → List Property → Row_of-FTree m → Type 0
+  EachSound schema end_of-FTree = Unit {0}
+  EachSound schema (more_of-FTree part rest) = PartsSound schema part × EachSound schema rest
+
+abbrev mutual
+  -- how many tokens the patterns have together
+  pub tokens_in_spans : SpanTree → ℕ
+  tokens_in_spans (Leaf leaf) = length leaf.pattern.texts
+  tokens_in_spans (Union' shape parts) = sum (tokens_of_parts parts)
+  tokens_in_spans (Near' shape parts n ordered) = sum (tokens_of_parts parts)
+
+  pub tokens_of_parts : {m : _} → Row_of-SpanTree m → List ℕ
+  tokens_of_parts end_of-SpanTree = []
+  tokens_of_parts (more_of-SpanTree part rest) = tokens_in_spans part ∷ tokens_of_parts rest
+
+abbrev mutual
+  pub tokens_in : FTree → ℕ
+  tokens_in (Spans look tree) = tokens_in_spans tree
+  tokens_in (Count look leaf from to) = length leaf.pattern.texts
+  tokens_in (Edge look leaf starts ends) = length leaf.pattern.texts
+  tokens_in (And' shape parts) = sum (tokens_each parts)
+  tokens_in (Or' shape parts) = sum (tokens_each parts)
+  tokens_in (AndNot' s first t others) = sum (tokens_each first) + sum (tokens_each others)
+  tokens_in (Not' s inner) = sum (tokens_each inner)
+  tokens_in (Filter' s inner) = sum (tokens_each inner)
+  tokens_in (Xrank' s matched t ranks cb) = sum (tokens_each matched) + sum (tokens_each ranks)
+  tokens_in _ = 0
+
+  pub tokens_each : {m : _} → Row_of-FTree m → List ℕ
+  tokens_each end_of-FTree = []
+  tokens_each (more_of-FTree part rest) = tokens_in part ∷ tokens_each rest
+
+abbrev mutual
+  pub xranks_in : FTree → ℕ
+  xranks_in (And' shape parts) = sum (xranks_each parts)
+  xranks_in (Or' shape parts) = sum (xranks_each parts)
+  xranks_in (AndNot' s first t others) = sum (xranks_each first) + sum (xranks_each others)
+  xranks_in (Not' s inner) = sum (xranks_each inner)
+  xranks_in (Filter' s inner) = sum (xranks_each inner)
+  xranks_in (Xrank' s matched t ranks cb) = 1 + (sum (xranks_each matched) + sum (xranks_each ranks))
+  xranks_in _ = 0
+
+  pub xranks_each : {m : _} → Row_of-FTree m → List ℕ
+  xranks_each end_of-FTree = []
+  xranks_each (more_of-FTree part rest) = xranks_in part ∷ xranks_each rest
+
+pub record IsSound (schema : List Property) (tree : FTree) : Type 0 where
+  pub parts : PartsSound schema tree
+  pub tokens : tokens_in tree < 100_000_000
+  pub xranks : xranks_in tree < 1_000_000
