@@ -1,0 +1,5 @@
+mod KqlEquations
+mod SeenLemmas
+mod Steps
+mod ValidLemmas
+mod WorkedExamples

@@ -1,5 +1,6 @@
 -- What a query sees of an item: the passages and numbers of its properties.
-use Rattle.std.specs.Prelude.{ℕ, ◌+◌, if◌then◌else◌, ◌==◌, List, [], ◌∷◌, map, filter, filter_map, flat_map, Option, Some, None, ℤ, pos}
+use Rattle.std.specs.Prelude.{ℕ, ◌+◌, Bool, false, ◌&&◌, if◌then◌else◌, ◌==◌, List, [], ◌∷◌, map, filter, filter_map, flat_map, Option, Some, None, ℤ, pos, int_le}
+use Rattle.std.specs.List.{list_any}
 use Rattle.sq_schema.specs.declared.property.Property.{Property}
 use Rattle.sq_tokens.specs.Token.{Token, text_tokens}
 use Rattle.sq_model.specs.declared.corpus.Content.{Content}
@@ -35,6 +36,10 @@ passages values property = filter_map passage_of (contents values property)
 abbrev pub numbers : List Value → ℕ → List ℤ
 numbers values property = filter_map number_of (contents values property)
 
+abbrev pub is_searchable : Option Property → Bool
+is_searchable None = false
+is_searchable (Some row) = row.searchable
+
 -- the numbers of the searchable rows among these, of which the first has this number
 abbrev pub searchable_from : ℕ → List Property → List ℕ
 searchable_from at [] = []
@@ -47,3 +52,7 @@ searchable schema = searchable_from 0 schema
 -- the passages of all searchable properties, in the schema's order
 abbrev pub searchable_passages : List Property → List Value → List Passage
 searchable_passages schema values = flat_map (passages values) (searchable schema)
+
+-- one of the numbers is from first to last
+abbrev pub some_within : ℤ → ℤ → List ℤ → Bool
+some_within first last numbers = list_any (λ n. int_le first n && int_le n last) numbers

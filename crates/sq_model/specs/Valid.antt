@@ -77,6 +77,16 @@ abbrev pub are_different : List (List ℕ) → Bool
 are_different [] = true
 are_different (text ∷ rest) = not (list_any (bytes_eq text) rest) && are_different rest
 
+-- The texts are short enough to be read as tokens: the bound on a text, by itself.
+abbrev pub is_short : Content → Bool
+is_short (Words text) = nat_lt (length text) 67_108_864
+is_short (Number n) = true
+is_short (Moment n) = true
+is_short (Flag b) = true
+
+abbrev pub has_short_texts : Item → Bool
+has_short_texts item = list_all (λ value. is_short value.content) item.values
+
 -- how many bytes the texts of an item have together
 abbrev pub content_bytes : Content → ℕ
 content_bytes (Words text) = length text

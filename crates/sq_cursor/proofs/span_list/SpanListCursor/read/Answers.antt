@@ -1,0 +1,6 @@
+use Rattle.std.proofs.Common.{arith}
+use Rattle.sq_cursor.proofs.EntryLemmas.{first_count-drop}
+use Rattle.sq_cursor.proofs.span_list.SpanListCursor.read.Goals as goal
+
+pub returns-then-self : goal.returns-then-self
+returns-then-self g c = omega (arith, c.tick.ensures, first_count-drop c.args.self.now.at c.args.self.now.spans.now c.if-self.true)

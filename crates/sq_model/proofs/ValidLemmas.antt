@@ -1,0 +1,50 @@
+-- The texts of a valid corpus are short.
+use Rattle.std.proofs.Common.{arith, ◌≡◌, Bool, true, false, ◌&&◌, List, [], ◌∷◌, refl, ap, Option, Some, None, length}
+use Rattle.std.specs.Prelude.{slice_get, nat_lt}
+use Rattle.std.specs.List.{list_all}
+use Rattle.sq_base.specs.Xml.{is_xml_text}
+use Rattle.sq_schema.specs.declared.property.Property.{Property}
+use Rattle.sq_schema.specs.declared.property.Kind.{Kind}
+use Rattle.sq_schema.specs.declared.property.Kind.TheVariants.{Text, Integer, DateTime, YesNo}
+use Rattle.sq_model.specs.declared.corpus.Content.{Content}
+use Rattle.sq_model.specs.declared.corpus.Content.TheVariants.{Words, Number, Moment, Flag}
+use Rattle.sq_model.specs.declared.corpus.Value.{Value}
+use Rattle.sq_model.specs.declared.corpus.Item.{Item}
+use Rattle.sq_model.specs.declared.corpus.Corpus.{Corpus}
+use Rattle.sq_model.specs.Valid.{IsValid, has_short_texts, is_short, has_kind, is_content_of, is_value, is_item}
+
+pub and_left : (a b : Bool) → (a && b) ≡ true → a ≡ true
+and_left true b h = refl
+and_left false b h = h
+
+pub and_right : (a b : Bool) → (a && b) ≡ true → b ≡ true
+and_right true b h = h
+and_right false b h = absurd (grind arith)
+
+pub and_both : (a b : Bool) → a ≡ true → b ≡ true → (a && b) ≡ true
+and_both a b h k = rw (h, k) refl
+
+pub all_weaker : {X : Type 0} (p q : X → Bool) → ((x : X) → p x ≡ true → q x ≡ true) → (xs : List X) → list_all p xs ≡ true → list_all q xs ≡ true
+all_weaker p q w [] h = refl
+all_weaker p q w (x ∷ xs) h = and_both (q x) (list_all q xs) (w x (and_left (p x) (list_all p xs) h)) (all_weaker p q w xs (and_right (p x) (list_all p xs) h))
+
+short_of_kind : (kind : Kind) (content : Content) → has_kind kind content ≡ true → is_short content ≡ true
+short_of_kind Text (Words text) h = and_right (is_xml_text text) (nat_lt (length text) 67_108_864) h
+short_of_kind Integer (Words text) h = absurd (grind arith)
+short_of_kind DateTime (Words text) h = absurd (grind arith)
+short_of_kind YesNo (Words text) h = absurd (grind arith)
+short_of_kind kind (Number n) h = refl
+short_of_kind kind (Moment n) h = refl
+short_of_kind kind (Flag b) h = refl
+
+short_of_row : (row : Option Property) (content : Content) → is_content_of row content ≡ true → is_short content ≡ true
+short_of_row None content h = absurd (grind arith)
+short_of_row (Some row) content h = short_of_kind row.kind content h
+
+item_is_short : (schema : List Property) (item : Item) → is_item schema item ≡ true → has_short_texts item ≡ true
+item_is_short schema item h =
+    all_weaker (is_value schema) (λ value. is_short value.content) (λ value k. short_of_row (slice_get schema value.property) value.content k) item.values
+    (first_of (search h, grind (arith, h)))
+
+pub valid_texts_are_short : (corpus : Corpus) → IsValid corpus → list_all has_short_texts corpus.items ≡ true
+valid_texts_are_short corpus v = all_weaker (is_item corpus.schema) has_short_texts (item_is_short corpus.schema) corpus.items v.items

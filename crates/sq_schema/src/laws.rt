@@ -1,0 +1,12 @@
+//! Laws of the definitions, for callers that prove more than one call.
+ghost use Rattle.sq_schema.specs.Laws as spec;
+
+/// Each row of a schema is found by its name.
+pub fn names_find_rows()
+    ensures { spec.NamesFindRows }
+{}
+
+/// What [`crate::moment_text`] writes is read back by [`crate::day_interval`] as that moment alone.
+pub fn moments_read_back()
+    ensures { spec.MomentsReadBack }
+{}
