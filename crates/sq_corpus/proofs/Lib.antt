@@ -7,3 +7,4 @@ pub mod LineLemmas
 pub mod PieceLemmas
 pub mod SoundLemmas
 pub mod ValidLemmas
+mod WorkedExamples

@@ -1,19 +1,21 @@
 -- A corpus that a text spells is valid.
-use Rattle.std.proofs.Common.{◌≡◌, ◌⊎◌, inl, inr, ℕ, ◌+◌, ◌<◌, ◌≤◌, nat_le, nat_lt, Bool, true, false, cond, not, ◌&&◌, List, [], ◌∷◌, ◌++◌, map, length, length-append, refl, ap, sym, subst, ◌∙◌, arith, position, slice_get, Option, Some, None, option_map, option_to_list, Result, Ok, Err, ℤ, pos, neg_ℤ, sum_by}
+use Rattle.std.proofs.Common.{◌≡◌, ◌⊎◌, inl, inr, ℕ, ◌+◌, ◌<◌, ◌≤◌, nat_le, nat_lt, Bool, true, false, cond, not, ◌&&◌, List, [], ◌∷◌, ◌++◌, map, length, length-append, refl, ap, sym, subst, ◌∙◌, arith, position, slice_get, Option, Some, None, option_map, option_to_list, Result, Ok, Err, IfOk, ℤ, pos, neg_ℤ, sum_by}
 use Rattle.std.specs.List.{list_all, list_any}
 use Rattle.std.specs.Str.{is_utf8}
 use Rattle.std.proofs.lemmas.List.Folds.{list_all-append}
 use Rattle.std.proofs.lemmas.List.Sums.{sum_by_push}
 use Rattle.sq_base.specs.Xml.{is_xml_text}
 use Rattle.sq_schema.specs.declared.property.Kind.{Kind}
+use Rattle.sq_schema.specs.declared.property.Kind.TheVariants.{Text, Integer, DateTime, YesNo}
 use Rattle.sq_schema.specs.declared.property.Property.{Property}
 use Rattle.sq_schema.specs.Properties.{has_name}
 use Rattle.sq_model.specs.declared.corpus.Caller.{Caller}
 use Rattle.sq_model.specs.declared.corpus.Content.{Content}
+use Rattle.sq_model.specs.declared.corpus.Content.TheVariants.{Words, Number, Moment, Flag}
 use Rattle.sq_model.specs.declared.corpus.Corpus.{Corpus}
 use Rattle.sq_model.specs.declared.corpus.Item.{Item}
 use Rattle.sq_model.specs.declared.corpus.Value.{Value}
-use Rattle.sq_model.specs.Valid.{is_name, is_text, is_claim_list, is_from_to, is_value, is_caller, count_of, has_few, is_item, are_rising, content_bytes, item_bytes, IsValid}
+use Rattle.sq_model.specs.Valid.{is_name, is_text, is_claim_list, is_from_to, is_value, is_caller, count_of, has_few, is_item, are_rising, content_bytes, item_bytes, is_content_of, has_kind, is_short, has_short_texts, IsValid}
 use Rattle.sq_corpus.specs.declared.before.Before.{Before}
 use Rattle.sq_corpus.specs.declared.before.Stage.{Stage}
 use Rattle.sq_corpus.specs.declared.before.Stage.TheVariants.{Start, InProperties, InCallers, BeforeAllow, BeforeDeny, InValues}
@@ -24,11 +26,13 @@ use Rattle.sq_corpus.specs.CorpusText.{LineFault, faulty, nothing_before, may_en
 use Rattle.sq_corpus.specs.Escapes.{text_of}
 use Rattle.sq_corpus.specs.Lines.{may_stand, row_of, with_row, with_property, caller_of, with_caller, item_number, rank_of, is_above, item_of, items_of, with_url, with_item, list_fault, allowing, denying, if_faultless, allowed, denied, with_allow, with_deny, content_of, values_of, value_of, holding, held, with_content, with_value_of, with_value, with_known, with_fields, at_most_607, with_text, with_line}
 use Rattle.sq_corpus.specs.Pieces.{fields_of, lines_of}
+use Rattle.sq_corpus.specs.declared.fault.CorpusFault.{CorpusFault}
+use Rattle.sq_corpus.specs.Reads.{IsAnswer, Reads}
 use Rattle.sq_corpus.specs.Words.{line_kind, kind_of, flags_of}
 use Rattle.sq_corpus.proofs.CleanLemmas.{AllClean, Clean, both_true, left_true, right_true, clean_line, clean_fields, total, total_pieces, sum_total}
 use Rattle.sq_corpus.proofs.ContentLemmas.{ItemNumber, number_in, rank_in, GoodContent, content_good, text_good}
 use Rattle.sq_corpus.proofs.FineLemmas.{FineText, fine_text}
-use Rattle.sq_corpus.proofs.LineLemmas.{after_line, from_cons}
+use Rattle.sq_corpus.proofs.LineLemmas.{after_line, from_cons, step-end}
 use Rattle.sq_corpus.proofs.SoundLemmas.{Sound, Room, by_not_le, by_not_lt, le_true, is_early, different_more, numbers_more, changed, few_more, few_none}
 
 never : false ≡ true → ⊥
@@ -479,3 +483,48 @@ pub corpus_valid : (bytes : List ℕ) (corpus : Corpus) → length bytes ≤ 67_
 unfolding corpus_of
 corpus_valid bytes corpus within e =
     lines_valid (lines_of bytes) 1 nothing_before corpus 0 nothing_sound (omega (arith, total_pieces 10 bytes, within)) e
+
+-- Texts are short in a valid corpus.
+
+short_content : (kind : Kind) (content : Content) → has_kind kind content ≡ true → is_short content ≡ true
+short_content Text (Words text) good = right_true (is_xml_text text) (nat_lt (length text) 67_108_864) good
+short_content kind (Words text) good = cc
+short_content kind (Number n) good = refl
+short_content kind (Moment n) good = refl
+short_content kind (Flag b) good = refl
+
+short_value : (o : Option Property) (content : Content) → is_content_of o content ≡ true → is_short content ≡ true
+short_value None content good = cc
+short_value (Some row) content good = short_content row.kind content good
+
+short_values : (rows : List Property) (values : List Value) → list_all (is_value rows) values ≡ true → list_all (λ value. is_short value.content) values ≡ true
+short_values rows [] good = refl
+short_values rows (value ∷ values) good =
+    both_true _ _ (short_value (slice_get rows value.property) value.content (left_true (is_value rows value) (list_all (is_value rows) values) good))
+    (short_values rows values (right_true (is_value rows value) (list_all (is_value rows) values) good))
+
+short_items : (rows : List Property) (items : List Item) → list_all (is_item rows) items ≡ true → list_all has_short_texts items ≡ true
+short_items rows [] good = refl
+short_items rows (item ∷ items) good =
+    both_true _ _ (short_values rows item.values (parts rows item (left_true (is_item rows item) (list_all (is_item rows) items) good)).values)
+    (short_items rows items (right_true (is_item rows item) (list_all (is_item rows) items) good))
+
+-- What a reader answers is valid, since it is what the text spells.
+
+pub answer_valid : (bytes : List ℕ) (result : Result Corpus CorpusFault) → length bytes ≤ 67_108_864 → Reads bytes result → IfOk result IsValid
+answer_valid bytes (Ok corpus) within reads = corpus_valid bytes corpus within reads
+answer_valid bytes (Err fault) within reads = tt
+
+pub answer_short : (bytes : List ℕ) (result : Result Corpus CorpusFault) → length bytes ≤ 67_108_864 → Reads bytes result
+    → IfOk result (λ corpus. list_all has_short_texts corpus.items ≡ true)
+answer_short bytes (Ok corpus) within reads = short_items corpus.schema corpus.items (corpus_valid bytes corpus within reads).items
+answer_short bytes (Err fault) within reads = tt
+
+-- what is answered at the end of the text is what the whole text spells
+pub reads_end : (number : ℕ) (before given : Before) (rest bytes : List ℕ) (result : Result Corpus CorpusFault)
+    → lines_of rest ≡ rest ∷ [] → corpus_from number before (lines_of rest) ≡ corpus_of bytes → given ≡ before
+    → IsAnswer (at_end number given rest) result → Reads bytes result
+reads_end number before given rest bytes result last kept is answered =
+    let whole = ap (λ b. at_end number b rest) is ∙ step-end number before rest (corpus_of bytes) last kept in
+    let P : Result Corpus LineFault → Type 0 = λ answer. IsAnswer answer result in
+    subst P whole answered
