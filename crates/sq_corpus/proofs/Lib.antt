@@ -1,4 +1,10 @@
+pub mod CleanLemmas
+pub mod ContentLemmas
 pub mod EscapeLemmas
+pub mod FineLemmas
 pub mod KeptLemmas
 pub mod LineLemmas
 pub mod PieceLemmas
+pub mod SoundLemmas
+pub mod ValidLemmas
+mod WorkedExamples

@@ -44,11 +44,11 @@ begins_pieces separator [] = record { first = []; rest = []; is = refl }
 begins_pieces separator (byte ∷ bytes) = begins_at (byte == separator) (pieces separator bytes) _ (begins_onto byte (pieces separator bytes))
 
 -- what a line makes of the lines behind it
-abbrev after_line : ℕ → List (List ℕ) → Result Before ℕ → Result Corpus LineFault
+abbrev pub after_line : ℕ → List (List ℕ) → Result Before ℕ → Result Corpus LineFault
 after_line number lines (Ok after) = corpus_from (number + 1) after lines
 after_line number lines (Err code) = faulty code number
 
-from_cons : (number : ℕ) (before : Before) (line : List ℕ) (lines : List (List ℕ)) → Begins lines
+pub from_cons : (number : ℕ) (before : Before) (line : List ℕ) (lines : List (List ℕ)) → Begins lines
     → corpus_from number before (line ∷ lines) ≡ after_line number lines (with_line before line)
 from_cons number before line [] begins = cc
 from_cons number before line (next ∷ rest) begins = refl

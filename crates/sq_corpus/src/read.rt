@@ -1,4 +1,6 @@
-ghost use Rattle.std.specs.Prelude.{◌≡◌, ◌≤◌, length, IfOk};
+ghost use Rattle.std.specs.Prelude.{◌≡◌, ◌≤◌, true, length, IfOk};
+ghost use Rattle.std.specs.List.{list_all};
+ghost use Rattle.sq_model.specs.Valid.{IsValid, has_short_texts};
 ghost use Rattle.sq_corpus.specs.CorpusText as spec;
 ghost use Rattle.sq_corpus.specs.Reads as reads;
 
@@ -90,7 +92,9 @@ fn end_of(alloc: Global, before: Before, line: u32, rest: &[u8]) -> Result<Corpu
 #[tactic(auto, unfolding(crate::specs::CorpusText::corpus_of))]
 pub fn read_corpus(alloc: Global, bytes: &[u8]) -> Result<Corpus, CorpusFault>
     requires { length bytes.now ≤ 67_108_864 }
-    ensures { reads.Reads bytes.now result }
+    ensures reads { reads.Reads bytes.now result }
+    ensures valid { IfOk result IsValid }
+    ensures short { IfOk result (λ corpus. list_all has_short_texts corpus.items ≡ true) }
 {
     let mut reader = Reader::new(alloc);
     let mut rest = bytes;

@@ -1,11 +1,11 @@
-ghost use Rattle.std.specs.Prelude.{◌≡◌, ◌<◌, length, position, IfOk, IfSome};
+ghost use Rattle.std.specs.Prelude.{◌≡◌, ◌≢◌, false, ◌<◌, length, position, IfOk, IfSome};
 ghost use Rattle.std.specs.List.{list_any};
 ghost use Rattle.sq_schema.specs.Properties as properties;
 ghost use Rattle.sq_corpus.specs.Lines as spec;
 
 use crate::words::Flags;
 use sq_base::Text;
-use sq_schema::{Kind, Property, Schema};
+use sq_schema::{Kind, Property, Schema, SchemaFault};
 use std::alloc::{AllocError, Global};
 
 /// The row of a schema that a line's fields say.
@@ -26,6 +26,18 @@ pub(crate) fn row_of(
     })
 }
 
+// One row is never one too many.
+fn refused(fault: SchemaFault) -> Result<bool, AllocError>
+    ensures { IfOk result (λ sound. (sound ≡ false) × (fault ≢ SchemaFault.TooMany) × (fault ≢ SchemaFault.NoMemory)) }
+{
+    match fault {
+        SchemaFault::BadRow(_) => Ok(false),
+        SchemaFault::Repeated(_) => Ok(false),
+        SchemaFault::TooMany => Err(AllocError),
+        SchemaFault::NoMemory => Err(AllocError),
+    }
+}
+
 /// Whether a schema takes the row by itself.
 pub(crate) fn is_sound(alloc: Global, row: Property) -> Result<bool, AllocError>
     ensures { IfOk result (λ sound. sound ≡ properties.is_sound row) }
@@ -34,7 +46,10 @@ pub(crate) fn is_sound(alloc: Global, row: Property) -> Result<bool, AllocError>
     rows.push(row)?;
     match Schema::new(alloc, rows) {
         Ok(_) => Ok(true),
-        Err(_) => Ok(false),
+        Err(fault) => {
+            let sound = refused(fault)?;
+            Ok(sound)
+        }
     }
 }
 
