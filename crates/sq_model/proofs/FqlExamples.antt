@@ -1,5 +1,5 @@
 -- Worked examples of FQL, over the texts and items of the other worked examples.
-use Rattle.std.proofs.Common.{◌≡◌, ℕ, Bool, true, false, not, List, [], ◌∷◌, ℤ, pos, refl, Some, None}
+use Rattle.std.proofs.Common.{◌≡◌, ℕ, Bool, true, false, not, List, [], ◌∷◌, pos, refl, Some}
 use Rattle.std.specs.Prelude.{codes}
 use Rattle.sq_tokens.specs.Token.{text_tokens}
 use Rattle.sq_model.specs.declared.corpus.Value.{Value}

@@ -1,7 +1,7 @@
 -- The evaluator's texts and rows are those of the definitions.
 use Rattle.std.proofs.Common.{◌≡◌, ℕ, ◌+◌, ◌<◌, suc, zero, Bool, true, false, cond, List, [], ◌∷◌, drop, length, map, refl, sym, ap, ◌∙◌, arith, Some, None}
-use Rattle.std.specs.Prelude.{◌==◌, ◌||◌, if◌then◌else◌, nat_eq, slice_get}
-use Rattle.std.specs.List.{filter, filter_map, flat_map, list_any}
+use Rattle.std.specs.Prelude.{◌==◌, ◌||◌, if◌then◌else◌, slice_get}
+use Rattle.std.specs.List.{filter_map, flat_map, list_any}
 use Rattle.std.proofs.lemmas.List.Folds.{list_any-append}
 use Rattle.sq_schema.specs.declared.property.Property.{Property}
 use Rattle.sq_model.specs.declared.corpus.Value.{Value}
@@ -9,7 +9,7 @@ use Rattle.sq_model.specs.declared.corpus.Content.{Content}
 use Rattle.sq_model.specs.declared.corpus.Content.TheVariants.{Words, Number, Moment, Flag}
 use Rattle.sq_model.specs.declared.text_value.TextValue.{TextValue}
 use Rattle.sq_model.specs.Passages.{Passage, passages, passage_of, searchable_from, is_searchable}
-use Rattle.sq_model.specs.TextValues.{text_value, text_values, passages_in}
+use Rattle.sq_model.specs.TextValues.{text_values, passages_in}
 
 -- a text before others, by whether it is one of the property's
 text_first : (b : Bool) (text : TextValue) (texts : List TextValue) (value : Value) (values : List Value) →

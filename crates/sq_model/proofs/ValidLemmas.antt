@@ -1,5 +1,5 @@
 -- The texts of a valid corpus are short.
-use Rattle.std.proofs.Common.{arith, ◌≡◌, Bool, true, false, ◌&&◌, List, [], ◌∷◌, refl, ap, Option, Some, None, length}
+use Rattle.std.proofs.Common.{arith, ◌≡◌, Bool, true, false, ◌&&◌, List, [], ◌∷◌, refl, Option, Some, None, length}
 use Rattle.std.specs.Prelude.{slice_get, nat_lt}
 use Rattle.std.specs.List.{list_all}
 use Rattle.sq_base.specs.Xml.{is_xml_text}
@@ -8,7 +8,6 @@ use Rattle.sq_schema.specs.declared.property.Kind.{Kind}
 use Rattle.sq_schema.specs.declared.property.Kind.TheVariants.{Text, Integer, DateTime, YesNo}
 use Rattle.sq_model.specs.declared.corpus.Content.{Content}
 use Rattle.sq_model.specs.declared.corpus.Content.TheVariants.{Words, Number, Moment, Flag}
-use Rattle.sq_model.specs.declared.corpus.Value.{Value}
 use Rattle.sq_model.specs.declared.corpus.Item.{Item}
 use Rattle.sq_model.specs.declared.corpus.Corpus.{Corpus}
 use Rattle.sq_model.specs.Valid.{IsValid, has_short_texts, is_short, has_kind, is_content_of, is_value, is_item}

@@ -1,12 +1,11 @@
 -- Worked examples over three items of an archive. The tokens of their texts are a premise, since the tables of
 -- Unicode are too long to compute with.
-use Rattle.std.proofs.Common.{◌≡◌, ℕ, ◌+◌, Bool, true, false, not, if◌then◌else◌, List, [], ◌∷◌, ◌++◌, length, map, ℤ, pos, refl}
+use Rattle.std.proofs.Common.{◌≡◌, ℕ, ◌+◌, Bool, true, false, not, if◌then◌else◌, List, [], ◌∷◌, ◌++◌, length, ℤ, pos, refl}
 use Rattle.std.specs.Prelude.{codes, ◌==◌}
 use Rattle.sq_schema.specs.declared.property.Property.{Property}
 use Rattle.sq_schema.specs.declared.property.Kind.TheVariants as kind
 use Rattle.sq_tokens.specs.Token.{Token, text_tokens}
 use Rattle.sq_model.specs.declared.leaf.Leaf.{Leaf}
-use Rattle.sq_model.specs.declared.triple.Triple.{Triple}
 use Rattle.sq_model.specs.declared.corpus.Content.TheVariants.{Words, Number}
 use Rattle.sq_model.specs.declared.corpus.Item.{Item}
 use Rattle.sq_model.specs.declared.corpus.Value.{Value}

@@ -1,7 +1,6 @@
 -- Which properties, values and parameters a typed expression may have.
-use Rattle.std.specs.Prelude.{ℕ, Bool, true, false, ◌&&◌, ◌||◌, not, List, slice_get, Option, Some, None, option_map, ℤ, pos, neg_ℤ, int_le}
+use Rattle.std.specs.Prelude.{ℕ, Bool, false, ◌&&◌, not, List, slice_get, Option, Some, None, option_map, ℤ, pos, neg_ℤ, int_le}
 use Rattle.sq_schema.specs.declared.property.Kind.{Kind}
-use Rattle.sq_schema.specs.declared.property.Kind.TheVariants.{Text, Integer, DateTime, YesNo}
 use Rattle.sq_schema.specs.declared.property.Property.{Property}
 use Rattle.sq_schema.specs.Properties.{is_text}
 use Rattle.sq_model.specs.Valid.{is_from_to}

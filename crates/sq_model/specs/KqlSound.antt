@@ -1,10 +1,10 @@
 -- Which KQL trees are sound for a schema: what typing gives.
-use Rattle.std.specs.Prelude.{◌≡◌, ℕ, ◌+◌, ◌<◌, nat_le, Bool, true, false, not, ◌&&◌, List, [], ◌∷◌, length, sum, sum_by, Option, Some, None, ℤ, pos}
+use Rattle.std.specs.Prelude.{◌≡◌, ℕ, ◌+◌, ◌<◌, nat_le, Bool, true, false, ◌&&◌, List, [], ◌∷◌, length, sum, sum_by, Option, Some, None, ℤ, pos}
 use Rattle.sq_schema.specs.declared.property.Kind.{Kind}
 use Rattle.sq_schema.specs.declared.property.Kind.TheVariants as kind
 use Rattle.sq_schema.specs.declared.property.Property.{Property}
 use Rattle.sq_tokens.specs.Token.{text_tokens}
-use Rattle.sq_tokens.specs.Pattern.{Phrase, text_phrase, first_bad_star, without_good_star}
+use Rattle.sq_tokens.specs.Pattern.{text_phrase, first_bad_star, without_good_star}
 use Rattle.sq_model.specs.Lists.{is_empty}
 use Rattle.sq_model.specs.Kinds.{kind_of, is_text_property, is_integer_value, is_moment_value, is_same, is_boost}
 use Rattle.sq_model.specs.KqlCopies.{copies}

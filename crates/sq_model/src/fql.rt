@@ -26,7 +26,10 @@ pub enum SpanTree {
 #[derive(Drop)]
 pub enum FTree {
     All,
-    Spans { look: Look, tree: SpanTree },
+    Spans {
+        look: Look,
+        tree: SpanTree,
+    },
     /// The leaf fits at `from` places or more, and below `to` places.
     Count {
         look: Look,

@@ -26,11 +26,7 @@ fn rank_boost(
     ensures { IfOk result (λ sum. sum ≡ (if list_any (holds schema.now item.now.values) ranks.now then cb else pos 0)) }
 {
     let ranks_hold = some_hold(alloc, schema, item, texts, ranks)?;
-    if ranks_hold {
-        Ok(cb)
-    } else {
-        Ok(0)
-    }
+    if ranks_hold { Ok(cb) } else { Ok(0) }
 }
 
 #[cycle(fql_boost)]

@@ -60,7 +60,16 @@ pub fn holds(
             leaf,
             starts,
             ends,
-        } => edge_holds(alloc, schema, item, texts, *look, &leaf.pattern, *starts, *ends),
+        } => edge_holds(
+            alloc,
+            schema,
+            item,
+            texts,
+            *look,
+            &leaf.pattern,
+            *starts,
+            *ends,
+        ),
         FTree::Within {
             property,
             first,

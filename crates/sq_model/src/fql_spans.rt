@@ -12,11 +12,7 @@ use std::alloc::{AllocError, Global};
 
 #[cycle(spans)]
 #[tactic(auto, using(crate::proofs::FqlEquations::triples_union, crate::proofs::FqlEquations::triples_near))]
-pub fn triples(
-    alloc: Global,
-    passage: &Tokens,
-    tree: &SpanTree,
-) -> Result<List<Triple>, AllocError>
+pub fn triples(alloc: Global, passage: &Tokens, tree: &SpanTree) -> Result<List<Triple>, AllocError>
     ensures { IfOk result (λ found. found ≡ triples passage.now tree.now) }
 {
     match tree {

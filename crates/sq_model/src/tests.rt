@@ -250,3 +250,81 @@ fn a_caller_needs_a_claim_of_the_allow_list(rt: HostRuntime) -> Result<(), Fail>
     assert!(rt; !admits(staff.as_slice(), &hidden));
     Ok(())
 }
+
+fn spans(alloc: Global, text: &str) -> Result<FTree, Fail>
+    requires { length text.now < 2 ^ 32 }
+{
+    Ok(FTree::Spans {
+        look: Look::Searchable,
+        tree: SpanTree::Leaf(leaf(alloc, text)?),
+    })
+}
+
+fn twice(alloc: Global) -> Result<FTree, Fail> {
+    Ok(FTree::Count {
+        look: Look::Searchable,
+        leaf: leaf(alloc, "debt")?,
+        from: 2,
+        to: Some(3),
+    })
+}
+
+/// Debt, but not at the beginning of the body.
+fn behind_the_start(alloc: Global) -> Result<FTree, Fail> {
+    let mut others = List::new(alloc);
+    others.push(FTree::Edge {
+        look: Look::One(1),
+        leaf: leaf(alloc, "debt")?,
+        starts: true,
+        ends: false,
+    })?;
+    Ok(FTree::AndNot {
+        first: Boxed::new(alloc, spans(alloc, "debt")?)?,
+        others,
+    })
+}
+
+/// Two rank expressions.
+fn ranked_by_two(alloc: Global, matched: FTree) -> Result<FTree, Fail> {
+    let mut ranks = List::new(alloc);
+    ranks.push(FTree::All)?;
+    ranks.push(FTree::Within {
+        property: 2,
+        first: 7,
+        last: 9,
+    })?;
+    Ok(FTree::Xrank {
+        matched: Boxed::new(alloc, matched)?,
+        ranks,
+        cb: 5,
+    })
+}
+
+/// Asserts of each item whether the expression holds, and its boost.
+fn expect_fql(
+    rt: &impl Abort,
+    alloc: Global,
+    corpus: &Corpus,
+    tree: FTree,
+    want: &[(bool, i64)],
+) -> Result<(), Fail> {
+    assert!(rt; all_short(corpus.items.as_slice()));
+    assert_eq!(rt; corpus.items.len(), want.len());
+    for (i, (holds, boost)) in want.iter().enumerate() {
+        assert!(rt; i < corpus.items.len());
+        assert!(rt; i < 3);
+        assert_eq!(rt; fql_holds_slow(alloc, corpus, &tree, i as u32)?, *holds);
+        assert_eq!(rt; fql_boost_slow(alloc, corpus, &tree, i as u32)?, *boost);
+    }
+    Ok(())
+}
+
+#[test]
+fn fql_counts_places_and_boosts_once(rt: HostRuntime) -> Result<(), Fail> {
+    let alloc = rt.alloc();
+    let corpus = corpus(alloc)?;
+    let no = (false, 0);
+    expect_fql(&rt, alloc, &corpus, twice(alloc)?, &[no, (true, 0), no])?;
+    let tree = ranked_by_two(alloc, behind_the_start(alloc)?)?;
+    expect_fql(&rt, alloc, &corpus, tree, &[no, (true, 5), no])
+}

@@ -1,6 +1,6 @@
-use Rattle.std.proofs.Common.{rules, arith, ap, sym, ◌∙◌}
+use Rattle.std.proofs.Common.{arith, ap}
 use Rattle.std.proofs.lemmas.Int.{ints, to_z-of_z}
-use Rattle.sq_model.specs.Kql.{gain, holds}
+use Rattle.sq_model.specs.Kql.{gain}
 use Rattle.sq_model.proofs.KqlEquations.{kgain_xrank}
 use Rattle.sq_model.proofs.kql_boost.+kql_boost.Goals as goal
 
