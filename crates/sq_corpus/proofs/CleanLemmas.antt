@@ -1,5 +1,5 @@
 -- The fields of a line of XML characters in UTF-8 are such texts too, and are together no longer than the line.
-use Rattle.std.proofs.Common.{◌≡◌, ℕ, ◌+◌, ◌/◌, ◌<◌, ◌≤◌, lit≤, Bool, true, false, cond, not, ◌&&◌, ◌==◌, List, [], ◌∷◌, ◌++◌, map, length, length-append, refl, ap, sym, subst, ◌∙◌, arith, IsUtf8, chars, encode_utf8, encode_utf8_all, sum_by}
+use Rattle.std.proofs.Common.{◌≡◌, ℕ, ◌+◌, ◌/◌, ◌<◌, ◌≤◌, lit≤, Bool, true, false, cond, not, ◌&&◌, ◌==◌, List, [], ◌∷◌, ◌++◌, map, length, refl, ap, sym, subst, ◌∙◌, arith, chars, encode_utf8, encode_utf8_all, sum_by}
 use lib.Utf8.{scalar, encode, next}
 use Rattle.std.specs.List.{list_all}
 use Rattle.std.specs.Str.{is_utf8, all_scalars}
@@ -95,11 +95,14 @@ pieces_encoded_at true c cs tab behind =
     let nine : c ≡ 9 = grind (arith, nat_tests, tab) in
     let low : c < 128 = omega (arith, nine) in
     rw (encode_ascii c low) (ap (λ t. cond t ([] ∷ pieces 9 (encode_utf8_all cs)) (onto_first c (pieces 9 (encode_utf8_all cs)))) tab
-        ∙ ap (λ ps. [] ∷ ps) behind)
+    ∙ ap (λ ps. [] ∷ ps) behind)
 pieces_encoded_at false c cs tab behind =
     let begins = begins_pieces 9 cs in
     let there : Begins (pieces 9 (encode_utf8_all cs)) = record {
-        first = encode_utf8_all begins.first; rest = map encode_utf8_all begins.rest; is = behind ∙ ap (map encode_utf8_all) begins.is } in
+      first = encode_utf8_all begins.first;
+      rest = map encode_utf8_all begins.rest;
+      is = behind ∙ ap (map encode_utf8_all) begins.is;
+    } in
     pieces_behind (encode_utf8 c) (encode_utf8_all cs) (no_tab_in c tab) there
     ∙ ap (λ ps. map encode_utf8_all (onto_first c ps)) (sym begins.is)
 

@@ -1,5 +1,5 @@
 -- What the fields of items and values spell lies in its range.
-use Rattle.std.proofs.Common.{◌≡◌, ℕ, ◌^◌, ◌<◌, ◌≤◌, nat_le, nat_lt, Bool, true, false, cond, ◌&&◌, List, length, refl, ap, sym, subst, ◌∙◌, arith, Option, Some, None, option_map, Result, Ok, Err, IfSome, ℤ, pos, negsuc, neg_ℤ, ◌≤ℤ◌, int_le, unsigned_abs}
+use Rattle.std.proofs.Common.{◌≡◌, ℕ, ◌^◌, ◌<◌, ◌≤◌, nat_le, nat_lt, Bool, true, false, cond, List, length, refl, subst, arith, Option, Some, None, option_map, Result, Ok, Err, IfSome, ℤ, pos, negsuc, neg_ℤ, ◌≤ℤ◌, int_le, unsigned_abs}
 use Rattle.std.specs.Prelude.{codes}
 use Rattle.std.specs.Str.{bytes_eq}
 use Rattle.std.proofs.lemmas.Bool.Decides.{nat_tests}
@@ -20,8 +20,8 @@ use Rattle.sq_model.specs.Valid.{is_from_to, is_text, has_kind, content_bytes}
 use Rattle.sq_corpus.specs.Escapes.{text_of}
 use Rattle.sq_corpus.specs.Lines.{number_from_to, item_number, rank_of, words_of, integer_of, moment_of, flag_of, content_of}
 use Rattle.sq_corpus.proofs.CleanLemmas.{Clean, both_true, left_true, right_true, clean_text}
-use Rattle.sq_corpus.proofs.FineLemmas.{FineText, fine_text}
-use Rattle.sq_corpus.proofs.SoundLemmas.{by_le, lt_true}
+use Rattle.sq_corpus.proofs.FineLemmas.{fine_text}
+use Rattle.sq_corpus.proofs.SoundLemmas.{lt_true}
 
 -- Numbers.
 

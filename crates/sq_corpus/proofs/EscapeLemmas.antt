@@ -1,5 +1,5 @@
 -- How a text is read with its escapes, one character after another.
-use Rattle.std.proofs.Common.{◌≡◌, ℕ, ◌==◌, Bool, true, false, List, [], ◌∷◌, ◌++◌, append_assoc, append-nil, refl, ap, sym, ◌∙◌, Option, Some, None, option_map, option_and_then, cond, length, arith, encode_utf8, encode_utf8_all, chars, IsUtf8}
+use Rattle.std.proofs.Common.{◌≡◌, ℕ, ◌==◌, Bool, true, false, List, [], ◌∷◌, ◌++◌, append_assoc, append-nil, refl, ap, sym, ◌∙◌, Option, Some, None, option_map, length, arith, encode_utf8, encode_utf8_all, chars, IsUtf8}
 use Rattle.std.proofs.lemmas.Str.{chars_past_char, chars-nil}
 use Rattle.std.proofs.lemmas.Bool.Decides.{nat_tests}
 use Rattle.sq_corpus.specs.Escapes.{escaped, unescaped, behind_backslash}

@@ -1,5 +1,5 @@
 -- A text that is spelled with escapes is no longer than its field, and has XML characters where the field has.
-use Rattle.std.proofs.Common.{◌≡◌, ℕ, ◌+◌, ◌<◌, ◌≤◌, Bool, true, false, cond, ◌&&◌, ◌==◌, List, [], ◌∷◌, ◌++◌, length, length-append, refl, ap, sym, subst, ◌∙◌, arith, chars, encode_utf8, encode_utf8_all, Option, Some, None, option_map, option_and_then, lit<}
+use Rattle.std.proofs.Common.{◌≡◌, ℕ, ◌≤◌, Bool, true, false, cond, ◌==◌, List, [], ◌∷◌, length, length-append, refl, ap, sym, subst, ◌∙◌, arith, chars, encode_utf8, encode_utf8_all, Option, Some, None, option_map, option_and_then, lit<}
 use lib.Utf8.{scalar}
 use Rattle.std.specs.List.{list_all}
 use Rattle.std.specs.Str.{all_scalars}

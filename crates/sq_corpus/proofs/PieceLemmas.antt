@@ -1,5 +1,5 @@
 -- Where a text is cut at a separator.
-use Rattle.std.proofs.Common.{◌≡◌, ℕ, suc, ◌+◌, ◌-◌, ◌<◌, ◌≤◌, Bool, true, false, cond, not, nat_lt, ◌==◌, List, [], ◌∷◌, ◌++◌, append_assoc, map, take, drop, length, length-drop, refl, ap, sym, ◌∙◌, arith, add-one, Option, Some, None, position, MatchOption, Bor}
+use Rattle.std.proofs.Common.{◌≡◌, ℕ, suc, ◌+◌, ◌-◌, ◌<◌, Bool, true, false, cond, not, ◌==◌, List, [], ◌∷◌, ◌++◌, append_assoc, map, take, drop, length, length-drop, refl, ap, ◌∙◌, arith, Some, None, position, Bor}
 use Rattle.std.proofs.lemmas.Grind.{common_steps}
 use Rattle.std.proofs.lemmas.Bool.Decides.{nat_tests}
 use Rattle.std.proofs.lemmas.List.{map-append}

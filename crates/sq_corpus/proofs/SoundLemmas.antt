@@ -1,5 +1,5 @@
 -- What holds of the lines before: the rules of a valid corpus, as far as it is read.
-use Rattle.std.proofs.Common.{◌≡◌, ◌⊎◌, inl, inr, ℕ, suc, ◌+◌, ◌<◌, ◌≤◌, nat_le, nat_lt, Bool, true, false, cond, not, ◌&&◌, ◌||◌, ◌==◌, List, [], ◌∷◌, ◌++◌, append_assoc, append-nil, map, filter, length, length-append, refl, ap, sym, subst, ◌∙◌, arith, slice_get, Option, Some, None, option_map, option_to_list, sum_by}
+use Rattle.std.proofs.Common.{◌≡◌, ◌⊎◌, inl, inr, ℕ, suc, ◌+◌, ◌<◌, ◌≤◌, nat_le, nat_lt, Bool, true, false, cond, not, ◌&&◌, ◌||◌, ◌==◌, List, [], ◌∷◌, ◌++◌, append_assoc, map, filter, length, length-append, refl, ap, sym, subst, ◌∙◌, arith, slice_get, Option, Some, None, option_map, option_to_list, sum_by}
 use Rattle.std.specs.List.{list_all, list_any}
 use Rattle.std.specs.Str.{bytes_eq}
 use Rattle.std.proofs.lemmas.Bool.Decides.{nat_tests}
@@ -110,7 +110,7 @@ numbers_more items None new begun rising above = ap (λ is. are_rising (map numb
 numbers_more items (Some last) new begun rising above =
     let before : map number_of_item (items ++ last ∷ []) ≡ map number_of_item items ++ last.number ∷ [] = map-append number_of_item items (last ∷ []) in
     let after : map number_of_item ((items ++ last ∷ []) ++ new ∷ []) ≡ map number_of_item items ++ (last.number ∷ (new.number ∷ [])) =
-        ap (map number_of_item) (append_assoc items (last ∷ []) (new ∷ [])) ∙ map-append number_of_item items (last ∷ (new ∷ [])) in
+    ap (map number_of_item) (append_assoc items (last ∷ []) (new ∷ [])) ∙ map-append number_of_item items (last ∷ (new ∷ [])) in
     ap are_rising after
     ∙ rising_more (map number_of_item items) last.number new.number (sym (ap are_rising before) ∙ rising) above
 
@@ -205,8 +205,8 @@ few_more values value at (row ∷ rows) few room =
     let here = left_true (nat_le (count_of values at) 1_000 && (row.multi || nat_le (count_of values at) 1)) (has_few values (at + 1) rows) few in
     let there = right_true (nat_le (count_of values at) 1_000 && (row.multi || nat_le (count_of values at) 1)) (has_few values (at + 1) rows) few in
     let fits : (value.property == at) ≡ true → Room values row at = λ e.
-        let is : value.property ≡ at = grind (arith, nat_tests, e) in
-        subst (Room values row) is (room 0 row refl (omega (arith, is))) in
+    let is : value.property ≡ at = grind (arith, nat_tests, e) in
+    subst (Room values row) is (room 0 row refl (omega (arith, is))) in
     both_true _ _ (few_at (value.property == at) row.multi (count_of values at) _ (count_more values value at) here fits)
     (few_more values value (at + 1) rows there (λ k other e is. room (suc k) other e (omega (arith, is))))
 

@@ -1,12 +1,12 @@
 -- A corpus that a text spells is valid.
-use Rattle.std.proofs.Common.{◌≡◌, ◌⊎◌, inl, inr, ℕ, ◌+◌, ◌<◌, ◌≤◌, nat_le, nat_lt, Bool, true, false, cond, not, ◌&&◌, List, [], ◌∷◌, ◌++◌, map, length, length-append, refl, ap, sym, subst, ◌∙◌, arith, position, slice_get, Option, Some, None, option_map, option_to_list, Result, Ok, Err, IfOk, ℤ, pos, neg_ℤ, sum_by}
-use Rattle.std.specs.List.{list_all, list_any}
+use Rattle.std.proofs.Common.{◌≡◌, ◌⊎◌, inl, inr, ℕ, ◌+◌, ◌<◌, ◌≤◌, nat_le, nat_lt, Bool, true, false, cond, not, ◌&&◌, List, [], ◌∷◌, ◌++◌, length, length-append, refl, ap, sym, subst, ◌∙◌, arith, position, slice_get, Option, Some, None, option_to_list, Result, Ok, Err, IfOk, ℤ, pos, neg_ℤ}
+use Rattle.std.specs.List.{list_all}
 use Rattle.std.specs.Str.{is_utf8}
 use Rattle.std.proofs.lemmas.List.Folds.{list_all-append}
 use Rattle.std.proofs.lemmas.List.Sums.{sum_by_push}
 use Rattle.sq_base.specs.Xml.{is_xml_text}
 use Rattle.sq_schema.specs.declared.property.Kind.{Kind}
-use Rattle.sq_schema.specs.declared.property.Kind.TheVariants.{Text, Integer, DateTime, YesNo}
+use Rattle.sq_schema.specs.declared.property.Kind.TheVariants.{Text}
 use Rattle.sq_schema.specs.declared.property.Property.{Property}
 use Rattle.sq_schema.specs.Properties.{has_name}
 use Rattle.sq_model.specs.declared.corpus.Caller.{Caller}
@@ -15,7 +15,7 @@ use Rattle.sq_model.specs.declared.corpus.Content.TheVariants.{Words, Number, Mo
 use Rattle.sq_model.specs.declared.corpus.Corpus.{Corpus}
 use Rattle.sq_model.specs.declared.corpus.Item.{Item}
 use Rattle.sq_model.specs.declared.corpus.Value.{Value}
-use Rattle.sq_model.specs.Valid.{is_name, is_text, is_claim_list, is_from_to, is_value, is_caller, count_of, has_few, is_item, are_rising, content_bytes, item_bytes, is_content_of, has_kind, is_short, has_short_texts, IsValid}
+use Rattle.sq_model.specs.Valid.{is_name, is_text, is_claim_list, is_from_to, is_value, is_caller, count_of, has_few, is_item, content_bytes, item_bytes, is_content_of, has_kind, is_short, has_short_texts, IsValid}
 use Rattle.sq_corpus.specs.declared.before.Before.{Before}
 use Rattle.sq_corpus.specs.declared.before.Stage.{Stage}
 use Rattle.sq_corpus.specs.declared.before.Stage.TheVariants.{Start, InProperties, InCallers, BeforeAllow, BeforeDeny, InValues}
@@ -31,8 +31,8 @@ use Rattle.sq_corpus.specs.Reads.{IsAnswer, Reads}
 use Rattle.sq_corpus.specs.Words.{line_kind, kind_of, flags_of}
 use Rattle.sq_corpus.proofs.CleanLemmas.{AllClean, Clean, both_true, left_true, right_true, clean_line, clean_fields, total, total_pieces, sum_total}
 use Rattle.sq_corpus.proofs.ContentLemmas.{ItemNumber, number_in, rank_in, GoodContent, content_good, text_good}
-use Rattle.sq_corpus.proofs.FineLemmas.{FineText, fine_text}
-use Rattle.sq_corpus.proofs.LineLemmas.{after_line, from_cons, step-end}
+use Rattle.sq_corpus.proofs.FineLemmas.{fine_text}
+use Rattle.sq_corpus.proofs.LineLemmas.{after_line, step-end}
 use Rattle.sq_corpus.proofs.SoundLemmas.{Sound, Room, by_not_le, by_not_lt, le_true, is_early, different_more, numbers_more, changed, few_more, few_none}
 
 never : false ≡ true → ⊥
@@ -139,8 +139,8 @@ all_eight a b c d e f g h p =
 parts : (rows : List Property) (item : Item) → is_item rows item ≡ true → Parts rows item
 parts rows item p =
     let q = eight (nat_le 1 item.number) (nat_le item.number 4_294_967_294)
-        (is_from_to (neg_ℤ (pos 1_000_000_000)) (pos 1_000_000_000) item.rank) (is_text item.url) (is_claim_list item.allow)
-        (is_claim_list item.deny) (list_all (is_value rows) item.values) (has_few item.values 0 rows) p in
+    (is_from_to (neg_ℤ (pos 1_000_000_000)) (pos 1_000_000_000) item.rank) (is_text item.url) (is_claim_list item.allow)
+    (is_claim_list item.deny) (list_all (is_value rows) item.values) (has_few item.values 0 rows) p in
     record { low = q.first; high = q.second; rank = q.third; url = q.fourth; allow = q.fifth; deny = q.sixth; values = q.seventh; few = q.eighth }
 
 whole : (rows : List Property) (item : Item) → Parts rows item → is_item rows item ≡ true
@@ -211,7 +211,15 @@ url_sound before number rank (Some url) after n m sound numbered ranked texts ab
     let text = texts url refl in
     let few = by_not_le 1_000_000 (length (items_of before)) tests.0 in
     let good = whole before.rows (item_of number rank url) (record {
-        low = numbered.low; high = numbered.high; rank = ranked; url = text.0; allow = refl; deny = refl; values = refl; few = few_none 0 before.rows }) in
+      low = numbered.low;
+      high = numbered.high;
+      rank = ranked;
+      url = text.0;
+      allow = refl;
+      deny = refl;
+      values = refl;
+      few = few_none 0 before.rows;
+    }) in
     sound_along _ after (n + m) tests.1 (record {
       few_callers = sound.few_callers;
       callers = sound.callers;
@@ -250,7 +258,15 @@ allow_sound before claims after n m sound within e =
     (λ item is good.
     let p = parts before.rows item good in
     whole before.rows (allowing claims item) (record {
-      low = p.low; high = p.high; rank = p.rank; url = p.url; allow = claims_good claims tests.0 tests.1; deny = p.deny; values = p.values; few = p.few }))
+      low = p.low;
+      high = p.high;
+      rank = p.rank;
+      url = p.url;
+      allow = claims_good claims tests.0 tests.1;
+      deny = p.deny;
+      values = p.values;
+      few = p.few;
+    }))
     (λ item. omega (arith, sum_total claims, within)))
 
 deny_sound : (before : Before) (claims : List (List ℕ)) (after : Before) (n m : ℕ) → Sound before n → total claims ≤ m
@@ -263,7 +279,15 @@ deny_sound before claims after n m sound within e =
     (λ item is good.
     let p = parts before.rows item good in
     whole before.rows (denying claims item) (record {
-      low = p.low; high = p.high; rank = p.rank; url = p.url; allow = p.allow; deny = claims_good claims tests.0 tests.1; values = p.values; few = p.few }))
+      low = p.low;
+      high = p.high;
+      rank = p.rank;
+      url = p.url;
+      allow = p.allow;
+      deny = claims_good claims tests.0 tests.1;
+      values = p.values;
+      few = p.few;
+    }))
     (λ item. omega (arith, sum_total claims, within)))
 
 multi_or_none : (multi : Bool) (count : ℕ) → (not multi && nat_lt 0 count) ≡ false → (multi ≡ true) ⊎ (count ≡ 0)
@@ -289,17 +313,23 @@ content_sound before property row field (Ok content) after n m sound found conte
     (λ item is all.
     let p = parts before.rows item all in
     let room : Room item.values row property =
-        let P : Option Item → Type 0 = λ o. Room (values_of o) row property in subst P is (few, alone) in
+    let P : Option Item → Type 0 = λ o. Room (values_of o) row property in subst P is (few, alone) in
     let fits : (k : ℕ) (other : Property) → slice_get before.rows k ≡ Some other → 0 + k ≡ property → Room item.values other property = λ k other there at.
-        let place : k ≡ property = omega (arith, at) in
-        let same : row ≡ other = same_row _ row other found (ap (slice_get before.rows) (sym place) ∙ there) in
-        let Q : Property → Type 0 = λ r. Room item.values r property in
-        subst Q same room in
+    let place : k ≡ property = omega (arith, at) in
+    let same : row ≡ other = same_row _ row other found (ap (slice_get before.rows) (sym place) ∙ there) in
+    let Q : Property → Type 0 = λ r. Room item.values r property in
+    subst Q same room in
     let kept : is_value before.rows (value_of property content) ≡ true = rw found good.good in
     whole before.rows (holding (value_of property content) item) (record {
-      low = p.low; high = p.high; rank = p.rank; url = p.url; allow = p.allow; deny = p.deny;
+      low = p.low;
+      high = p.high;
+      rank = p.rank;
+      url = p.url;
+      allow = p.allow;
+      deny = p.deny;
       values = list_all-append (is_value before.rows) item.values (value_of property content ∷ []) ∙ both_true _ _ p.values (both_true _ _ kept refl);
-      few = few_more item.values (value_of property content) 0 before.rows p.few fits }))
+      few = few_more item.values (value_of property content) 0 before.rows p.few fits;
+    }))
     (λ item. omega (arith, sum_by_push (λ v. content_bytes v.content) item.values (value_of property content), good.bytes, within)))
 
 value_of_sound : (before : Before) (property : ℕ) (o : Option Property) (field : List ℕ) (after : Before) (n m : ℕ) → Sound before n

@@ -1,6 +1,6 @@
 -- Corpus texts. Each line ends with LF, and its fields are separated by one TAB. The first line is `SQCORPUS 1`. Then come the
 -- properties, the callers and the items, each item with its allow line, its deny line and its values.
-use Rattle.std.specs.Prelude.{ℕ, ◌+◌, Bool, true, false, if◌then◌else◌, List, [], ◌∷◌, Option, None, Result, Ok, Err}
+use Rattle.std.specs.Prelude.{ℕ, ◌+◌, Bool, true, false, if◌then◌else◌, List, [], ◌∷◌, None, Result, Ok, Err}
 use Rattle.std.specs.Str.{is_utf8}
 use Rattle.sq_model.specs.declared.corpus.Corpus.{Corpus}
 use Rattle.sq_corpus.specs.declared.before.Before.{Before}

@@ -1,7 +1,7 @@
 -- What stands after each line of a corpus text, or the lowest code of the line: 601 it isn't UTF-8, 602 it isn't of its form or
 -- may not stand there, 603 a number is bad, 604 the property is unknown, 605 a name or a value is repeated, 606 the item's number
 -- isn't above the one before, 607 a field is bad, 608 there are too many of its kind.
-use Rattle.std.specs.Prelude.{ℕ, ◌+◌, min, nat_lt, nat_le, Bool, true, false, not, ◌&&◌, ◌||◌, ◌==◌, if◌then◌else◌, List, [], ◌∷◌, ◌++◌, length, position, slice_get, codes, Option, Some, None, option_map, option_to_list, Result, Ok, Err, ℤ, pos, neg_ℤ, unsigned_abs}
+use Rattle.std.specs.Prelude.{ℕ, min, nat_lt, nat_le, Bool, true, false, not, ◌&&◌, if◌then◌else◌, List, [], ◌∷◌, ◌++◌, length, position, slice_get, codes, Option, Some, None, option_map, option_to_list, Result, Ok, Err, ℤ, pos, neg_ℤ, unsigned_abs}
 use Rattle.std.specs.List.{list_all, list_any}
 use Rattle.std.specs.Str.{bytes_eq, is_utf8}
 use Rattle.sq_base.specs.Xml.{is_xml_text}
@@ -23,7 +23,7 @@ use Rattle.sq_corpus.specs.declared.before.Before.{Before}
 use Rattle.sq_corpus.specs.declared.before.Stage.{Stage}
 use Rattle.sq_corpus.specs.declared.before.Stage.TheVariants.{Start, InProperties, InCallers, BeforeAllow, BeforeDeny, InValues}
 use Rattle.sq_corpus.specs.declared.words.LineKind.{LineKind}
-use Rattle.sq_corpus.specs.declared.words.LineKind.TheVariants.{Heading, PropertyRow, CallerRow, ItemHead, AllowList, DenyList, ValueRow, Unknown}
+use Rattle.sq_corpus.specs.declared.words.LineKind.TheVariants.{Heading, PropertyRow, CallerRow, ItemHead, AllowList, DenyList, ValueRow}
 use Rattle.sq_corpus.specs.declared.words.Flags.{Flags}
 use Rattle.sq_corpus.specs.Escapes.{text_of}
 use Rattle.sq_corpus.specs.Pieces.{fields_of}

@@ -1,4 +1,4 @@
-use Rattle.std.proofs.Common.{◌≡◌, ◌∙◌, ap, Some, string_bytes}
+use Rattle.std.proofs.Common.{◌∙◌, ap, Some, string_bytes}
 use Rattle.std.specs.Str.Iter.{chars_rest}
 use Rattle.std.proofs.lemmas.Str.{IsUtf8-past_char}
 use Rattle.sq_corpus.proofs.EscapeLemmas.{step-meant, step-bad, step-backslash, step-plain, end-escape, end-plain}

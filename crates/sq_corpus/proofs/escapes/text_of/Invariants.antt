@@ -1,4 +1,4 @@
-use Rattle.std.proofs.Common.{◌≡◌, ◌++◌, IsUtf8, chars, string_bytes, encode_utf8_all, option_map}
+use Rattle.std.proofs.Common.{◌≡◌, IsUtf8, chars, string_bytes}
 use Rattle.std.specs.Str.Iter.{chars_rest}
 use Rattle.sq_corpus.specs.Escapes.{text_of}
 use Rattle.sq_corpus.proofs.EscapeLemmas.{rest_of}

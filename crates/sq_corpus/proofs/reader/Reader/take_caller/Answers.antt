@@ -1,4 +1,3 @@
-use Rattle.std.proofs.Common.{◌∙◌}
 use Rattle.sq_corpus.proofs.KeptLemmas.{named-more}
 use Rattle.sq_corpus.proofs.reader.Reader.take_caller.Goals as goal
 
