@@ -1,0 +1,5 @@
+mod FilterLemmas
+mod HitLemmas
+mod HitsLemmas
+mod LeafLemmas
+mod WordLemmas

@@ -1,0 +1,277 @@
+ghost use Rattle.std.specs.Prelude.{None};
+
+use crate::adapters::{Reading, Writing};
+use crate::run::run;
+use sq_base::{Failed, MemSink, MemSource, Source};
+use std::alloc::{AllocError, Global};
+use std::fs::File;
+use std::test::Fail;
+
+const WORKED: &str = "SQCORPUS 1
+property\ttitle\ttext\ts
+property\tbody\ttext\ts
+property\tauthor\ttext\t-
+property\tfiletype\ttext\t-
+property\tsize\tinteger\tr
+property\twrite\tdatetime\t-
+property\tpublic\tyesno\t-
+caller\tAnn\tstaff
+caller\tBob\tstaff\tboard
+item\t1\t10\thttp://s/1
+allow\tstaff
+deny
+value\ttitle\tAnnual report
+value\tbody\tmerger of the old bank and the new bank
+value\tauthor\tAnn Smith
+value\tfiletype\tdocx
+value\tsize\t5
+item\t2\t20\thttp://s/2
+allow\tstaff
+deny
+value\ttitle\tDebt notes
+value\tbody\tacquisition of company debt
+value\tsize\t7
+value\twrite\t2024-02-29T12:00:00Z
+item\t3\t20\thttp://s/3
+allow\tboard
+deny
+value\ttitle\tBoard memo
+value\tbody\tdebt before acquisition
+value\tsize\t7
+";
+
+const MOMENT: i64 = 1_709_208_000;
+
+/// The worked corpus with another text in the place of one of its texts. It comes in small pieces, and
+/// fails at the first call where `fails`.
+fn source_of(alloc: Global, old: &str, new: &str, fails: bool) -> Result<MemSource, AllocError> {
+    let mut failing = Vec::new(alloc);
+    if fails {
+        failing.push(0)?;
+    }
+    let text = match WORKED.split_once(old) {
+        Some((front, behind)) => format!(in alloc; "{front}{new}{behind}")?,
+        None => String::from_str(alloc, WORKED)?,
+    };
+    Ok(MemSource {
+        bytes: Vec::from_slice(alloc, text.as_bytes())?,
+        pieces: Vec::from_slice(alloc, &[3, 1, 2])?,
+        failing,
+        calls: 0,
+        faults: 0,
+    })
+}
+
+#[test]
+fn words_have_their_status_and_text(rt: HostRuntime) -> Result<(), Fail> {
+    let alloc = rt.alloc();
+    let table: [(&[&str], (&str, &str), u8, &str); 22] = [
+        (
+            &["ask", "Ann", "kql", "debt"],
+            ("", ""),
+            0,
+            "total 1\nitem 2 score 20\n",
+        ),
+        (
+            &["ask", "Bob", "kql", "debt"],
+            ("", ""),
+            0,
+            "total 2\nitem 2 score 20\nitem 3 score 20\n",
+        ),
+        (
+            &["ask", "Bob", "kql", "notes company"],
+            ("", ""),
+            0,
+            "total 1\nitem 2 score 20\n",
+        ),
+        (
+            &["ask", "Ann", "kql", "STRASSE"],
+            ("merger of the old bank and the new bank", "Straße"),
+            0,
+            "total 1\nitem 1 score 10\n",
+        ),
+        (
+            &["ask", "Bob", "kql", "debt"],
+            ("item\t3\t20", "item\t3\t21"),
+            0,
+            "total 2\nitem 3 score 21\nitem 2 score 20\n",
+        ),
+        (
+            &["ask", "Bob", "kql", "debt"],
+            (
+                "deny\nvalue\ttitle\tDebt",
+                "deny\tboard\nvalue\ttitle\tDebt",
+            ),
+            0,
+            "total 1\nitem 3 score 20\n",
+        ),
+        (&["ask", "Ann", "kql", ""], ("", ""), 1, "fault 102 at 0\n"),
+        (&["ask", "Ann", "kql", "&"], ("", ""), 1, "fault 102 at 0\n"),
+        (
+            &["ask", "Ann", "kql", "old & bank"],
+            ("", ""),
+            0,
+            "total 1\nitem 1 score 10\n",
+        ),
+        (
+            &["ask", "Ann", "kql", "debt AND notes"],
+            ("", ""),
+            1,
+            "fault 199 at 0\n",
+        ),
+        (
+            &["ask", "Ann", "kql", "debt and notes"],
+            ("", ""),
+            0,
+            "total 0\n",
+        ),
+        (
+            &["ask", "Ann", "kql", "title:debt"],
+            ("", ""),
+            1,
+            "fault 199 at 0\n",
+        ),
+        (
+            &["ask", "Zed", "kql", "debt AND notes"],
+            ("", ""),
+            1,
+            "fault 511 at 0\n",
+        ),
+        (
+            &["ask", "Ann", "kql", "debt"],
+            ("SQCORPUS 1", "SQCORPUS 2"),
+            3,
+            "corpus fault 602 line 1\n",
+        ),
+        (
+            &["check"],
+            ("", ""),
+            0,
+            "ok 7 properties 2 callers 3 items\n",
+        ),
+        (
+            &["check"],
+            ("size\t5", "size\tfive"),
+            3,
+            "corpus fault 603 line 18\n",
+        ),
+        (
+            &["check"],
+            ("value\ttitle\tAnnual", "value\tcolour\tAnnual"),
+            3,
+            "corpus fault 604 line 14\n",
+        ),
+        (
+            &["check"],
+            ("item\t2", "item\t1"),
+            3,
+            "corpus fault 606 line 19\n",
+        ),
+        (&[], ("", ""), 2, ""),
+        (&["ask", "Ann"], ("", ""), 2, ""),
+        (&["ask", "Ann", "fql", "debt"], ("", ""), 2, ""),
+        (&["check", "all"], ("", ""), 2, ""),
+    ];
+    for (words, (old, new), status, sent) in table {
+        let mut corpus = source_of(alloc, old, new, false)?;
+        let mut out = MemSink::new(alloc, 1000, Vec::new(alloc))?;
+        let answer = run(alloc, words, MOMENT, &mut corpus, &mut out);
+        assert_eq!(rt; answer, status, "at {words:?}");
+        assert_eq!(rt; out.bytes(), sent.as_bytes(), "at {words:?}");
+    }
+    Ok(())
+}
+
+#[test]
+fn a_query_has_20480_bytes_at_most(rt: HostRuntime) -> Result<(), Fail> {
+    let alloc = rt.alloc();
+    let mut text = String::from_str(alloc, "a")?;
+    for _ in 0..20_479 {
+        text.push(' ')?;
+    }
+    let mut corpus = source_of(alloc, "", "", false)?;
+    let mut out = MemSink::new(alloc, 1000, Vec::new(alloc))?;
+    assert_eq!(rt;
+        run(
+            alloc,
+            &["ask", "Ann", "kql", &text],
+            MOMENT,
+            &mut corpus,
+            &mut out
+        ),
+        0
+    );
+    assert_eq!(rt; out.bytes(), b"total 0\n".as_slice());
+    text.push(' ')?;
+    let mut corpus = source_of(alloc, "", "", false)?;
+    let mut out = MemSink::new(alloc, 1000, Vec::new(alloc))?;
+    assert_eq!(rt;
+        run(
+            alloc,
+            &["ask", "Ann", "kql", &text],
+            MOMENT,
+            &mut corpus,
+            &mut out
+        ),
+        1
+    );
+    assert_eq!(rt; out.bytes(), b"fault 101 at 20480\n".as_slice());
+    Ok(())
+}
+
+/// So many bytes, made as they are read.
+#[derive(Drop)]
+struct Made {
+    left: u64,
+}
+
+impl Source for Made {
+    ghost left = { λ _. None };
+
+    ghost faults = { λ _. 0 };
+
+    fn read(&mut self, into: &mut [u8]) -> Result<usize, Failed> {
+        let count = (into.len() as u64).min(self.left);
+        self.left -= count;
+        Ok(count as usize)
+    }
+}
+
+#[test]
+fn failed_reads_and_writes_and_a_corpus_too_long_are_told(rt: HostRuntime) -> Result<(), Fail> {
+    let alloc = rt.alloc();
+    let words = ["ask", "Ann", "kql", "debt"];
+    let mut corpus = source_of(alloc, "", "", true)?;
+    let mut out = MemSink::new(alloc, 1000, Vec::new(alloc))?;
+    assert_eq!(rt; run(alloc, &words, MOMENT, &mut corpus, &mut out), 4);
+    assert_eq!(rt; out.bytes(), [].as_slice());
+    let mut corpus = source_of(alloc, "", "", false)?;
+    let mut out = MemSink::new(alloc, 1000, Vec::from_slice(alloc, &[0])?)?;
+    assert_eq!(rt; run(alloc, &words, MOMENT, &mut corpus, &mut out), 5);
+    assert_eq!(rt; out.bytes(), [].as_slice());
+    let mut out = MemSink::new(alloc, 1000, Vec::new(alloc))?;
+    assert_eq!(rt;
+        run(
+            alloc,
+            &words,
+            MOMENT,
+            &mut Made { left: 67_108_865 },
+            &mut out
+        ),
+        8
+    );
+    assert_eq!(rt; out.bytes(), [].as_slice());
+    Ok(())
+}
+
+#[test]
+fn a_file_is_read_and_a_missing_one_is_a_failed_read(rt: HostRuntime) -> Result<(), Fail> {
+    let alloc = rt.alloc();
+    let mut corpus = Reading::new(File::open(&rt, "corpus.sq").ok());
+    let mut out = Writing::new(Vec::new(alloc));
+    assert_eq!(rt; run(alloc, &["check"], MOMENT, &mut corpus, &mut out), 4);
+    std::fs::write(&rt, "corpus.sq", WORKED)?;
+    let mut corpus = Reading::new(File::open(&rt, "corpus.sq").ok());
+    assert_eq!(rt; run(alloc, &["check"], MOMENT, &mut corpus, &mut out), 0);
+    Ok(())
+}
