@@ -5,6 +5,7 @@ pub mod FineLemmas
 pub mod KeptLemmas
 pub mod LineLemmas
 pub mod PieceLemmas
+pub mod SchemaLemmas
 pub mod SoundLemmas
 pub mod ValidLemmas
 mod WorkedExamples

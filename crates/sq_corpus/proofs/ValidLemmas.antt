@@ -551,10 +551,9 @@ answer_short bytes (Ok corpus) within reads = short_items corpus.schema corpus.i
 answer_short bytes (Err fault) within reads = tt
 
 -- what is answered at the end of the text is what the whole text spells
-pub reads_end : (number : ℕ) (before given : Before) (rest bytes : List ℕ) (result : Result Corpus CorpusFault)
-    → lines_of rest ≡ rest ∷ [] → corpus_from number before (lines_of rest) ≡ corpus_of bytes → given ≡ before
-    → IsAnswer (at_end number given rest) result → Reads bytes result
-reads_end number before given rest bytes result last kept is answered =
-    let whole = ap (λ b. at_end number b rest) is ∙ step-end number before rest (corpus_of bytes) last kept in
+pub reads_end : (number : ℕ) (before : Before) (rest bytes : List ℕ) (result : Result Corpus CorpusFault)
+    → lines_of rest ≡ rest ∷ [] → corpus_from number before (lines_of rest) ≡ corpus_of bytes
+    → IsAnswer (at_end number before rest) result → Reads bytes result
+reads_end number before rest bytes result last kept answered =
     let P : Result Corpus LineFault → Type 0 = λ answer. IsAnswer answer result in
-    subst P whole answered
+    subst P (step-end number before rest (corpus_of bytes) last kept) answered

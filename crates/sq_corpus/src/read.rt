@@ -2,41 +2,15 @@ ghost use Rattle.std.specs.Prelude.{◌≡◌, ◌≤◌, true, length, IfOk};
 ghost use Rattle.std.specs.List.{list_all};
 ghost use Rattle.sq_model.specs.Valid.{IsValid, has_short_texts};
 ghost use Rattle.sq_corpus.specs.CorpusText as spec;
+ghost use Rattle.sq_corpus.specs.Keeps.{IsKept};
 ghost use Rattle.sq_corpus.specs.Reads as reads;
 
 use crate::CorpusFault;
-use crate::before::{Before, Stage, close};
 use crate::fault::Refusal;
 use crate::pieces::first_line;
 use crate::reader::Reader;
 use sq_model::Corpus;
-use sq_schema::Schema;
-use std::alloc::{AllocError, Global};
-
-fn may_end(stage: Stage) -> bool
-    ensures { result ≡ spec.may_end stage }
-{
-    matches!(
-        stage,
-        Stage::InProperties | Stage::InCallers | Stage::InValues
-    )
-}
-
-fn corpus_after(alloc: Global, before: Before) -> Result<Corpus, AllocError>
-    ensures { IfOk result (λ corpus. corpus ≡ spec.corpus_after before) }
-{
-    let mut before = before;
-    close(&mut before)?;
-    match Schema::new(alloc, before.rows.into_vec()) {
-        Ok(schema) => Ok(Corpus {
-            schema,
-            callers: before.callers,
-            items: before.items,
-        }),
-        // No row has a fault, since each was taken as a schema takes it.
-        Err(_) => Err(AllocError),
-    }
-}
+use std::alloc::Global;
 
 fn code_of_rest(rest: &[u8]) -> u16
     ensures { result ≡ spec.code_of_rest rest.now }
@@ -56,13 +30,14 @@ fn fault_at(refusal: Refusal, line: u32) -> CorpusFault
     }
 }
 
-fn end_of(alloc: Global, before: Before, line: u32, rest: &[u8]) -> Result<Corpus, CorpusFault>
-    ensures { reads.IsAnswer (spec.at_end line before rest.now) result }
+fn end_of(alloc: Global, reader: Reader, line: u32, rest: &[u8]) -> Result<Corpus, CorpusFault>
+    requires { IsKept reader }
+    ensures { reads.IsAnswer (spec.at_end line reader.before rest.now) result }
 {
     match rest {
         [] => {
-            if may_end(before.stage) {
-                match corpus_after(alloc, before) {
+            if reader.may_end() {
+                match reader.into_corpus(alloc) {
                     Ok(corpus) => Ok(corpus),
                     Err(_) => Err(CorpusFault::NoMemory),
                 }
@@ -108,5 +83,5 @@ pub fn read_corpus(alloc: Global, bytes: &[u8]) -> Result<Corpus, CorpusFault>
             Err(refusal) => return Err(fault_at(refusal, number)),
         }
     }
-    end_of(alloc, reader.into_before(), number, rest)
+    end_of(alloc, reader, number, rest)
 }

@@ -1,8 +1,8 @@
-ghost use Rattle.std.specs.Prelude.{◌≡◌, ◌<◌, ◌≤◌, ◌^◌, map, length, slice_index, slice_get, position, IfSome, IfOk, OnOk, Some, None, Ok};
+ghost use Rattle.std.specs.Prelude.{◌≡◌, ◌<◌, map, slice_index, position, IfOk, OnOk, Some, Ok};
 ghost use Rattle.sq_model.specs.Valid.{count_of};
 ghost use Rattle.sq_schema.specs.Properties.{has_name};
 ghost use Rattle.sq_corpus.specs.Escapes.{text_of};
-ghost use Rattle.sq_corpus.specs.CorpusText.{nothing_before};
+ghost use Rattle.sq_corpus.specs.CorpusText.{nothing_before, may_end, corpus_after};
 ghost use Rattle.sq_corpus.specs.Keeps.{IsKept};
 ghost use Rattle.sq_corpus.specs.Lines as spec;
 ghost use Rattle.sq_corpus.specs.Reads.{Gives, Takes};
@@ -13,13 +13,13 @@ use crate::escapes::text_of;
 use crate::fault::Refusal;
 use crate::names::add_name;
 use crate::pieces::fields_of;
-use crate::rows::{is_sound, is_taken, position_of, row_of};
+use crate::rows::{is_sound, is_taken, row_of, schema_of, schema_of_copies};
 use crate::values::{are_names, content_of, copies_of, is_name, item_number, list_fault, rank_of};
 use crate::words::{Flags, LineKind, flags_of, kind_of, line_kind};
 use sq_base::{List, Text, is_xml_text};
-use sq_model::{Caller, Content, Item, Value};
-use sq_schema::Kind;
-use std::alloc::Global;
+use sq_model::{Caller, Content, Corpus, Item, Value};
+use sq_schema::{Kind, Schema};
+use std::alloc::{AllocError, Global};
 use std::collections::BTreeSet;
 
 const ROW_LIMIT: usize = 64;
@@ -34,6 +34,8 @@ const VALUE_LIMIT: u32 = 1_000;
 #[derive(Drop)]
 pub(crate) struct Reader {
     before: Before,
+    /// The schema of the properties, once a value has asked for it.
+    schema: Option<Schema>,
     /// The names of the callers.
     names: BTreeSet<String>,
     /// How many values of each property the item that is read has.
@@ -53,15 +55,61 @@ impl Reader {
                 items: List::new(alloc),
                 item: None,
             },
+            schema: None,
             names: BTreeSet::new(alloc),
             counts: Vec::new(alloc),
         }
     }
 
-    pub(crate) fn into_before(self) -> Before
-        ensures { result ≡ self.before }
+    /// Whether no line is missing where the text ends.
+    pub(crate) fn may_end(&self) -> bool
+        ensures { result ≡ may_end self.now.before.stage }
     {
-        self.before
+        matches!(
+            self.before.stage,
+            Stage::InProperties | Stage::InCallers | Stage::InValues
+        )
+    }
+
+    /// The corpus of the lines that were read.
+    pub(crate) fn into_corpus(self, alloc: Global) -> Result<Corpus, AllocError>
+        requires { IsKept self }
+        ensures { IfOk result (λ corpus. corpus ≡ corpus_after self.before) }
+    {
+        let Reader { before, schema, .. } = self;
+        let mut before = before;
+        close(&mut before)?;
+        let Before {
+            rows,
+            callers,
+            items,
+            ..
+        } = before;
+        let schema = match schema {
+            Some(schema) => schema,
+            None => schema_of(alloc, rows.into_vec())?,
+        };
+        Ok(Corpus {
+            schema,
+            callers,
+            items,
+        })
+    }
+
+    /// The row of that name.
+    fn position_of(&mut self, alloc: Global, name: &str) -> Result<Option<u32>, AllocError>
+        requires { IsKept self.old }
+        ensures value { IfOk result (λ at. at ≡ position (has_name name.now) self.old.before.rows) }
+        ensures same { self.new.before ≡ self.old.before }
+        ensures kept { IsKept self.new }
+    {
+        if let Some(schema) = &self.schema {
+            return Ok(schema.find(name));
+        }
+        let schema = schema_of_copies(alloc, self.before.rows.as_slice())?;
+        let at = schema.find(name);
+        self.schema = Some(schema);
+        Ok(at)
     }
 
     #[tactic(auto, unfolding(crate::specs::Lines::with_row))]
@@ -85,6 +133,7 @@ impl Reader {
         } else if self.before.rows.len() >= ROW_LIMIT {
             Err(Refusal::Code(608))
         } else {
+            self.schema = None;
             self.before.rows.push(row)?;
             Ok(())
         }
@@ -299,20 +348,19 @@ impl Reader {
     fn take_value(
         &mut self,
         alloc: Global,
-        property: Option<usize>,
+        property: Option<u32>,
         field: &str,
     ) -> Result<(), Refusal>
-        requires kept { IsKept self.old }
-        requires within { IfSome property (λ at. at < length self.old.before.rows) }
+        requires { IsKept self.old }
         ensures takes { Takes (spec.with_value self.old.before property field.now) self.new.before result }
         ensures kept { OnOk result (IsKept self.new) }
     {
         match property {
-            Some(property) => match self.before.rows.as_slice().get(property) {
+            Some(property) => match self.before.rows.as_slice().get(property as usize) {
                 Some(row) => {
                     let kind = row.kind;
                     let multi = row.multi;
-                    self.take_field(alloc, property as u32, kind, multi, field)
+                    self.take_field(alloc, property, kind, multi, field)
                 }
                 None => Err(Refusal::Code(604)),
             },
@@ -379,7 +427,7 @@ impl Reader {
     {
         match fields {
             [name, field] => {
-                let property = position_of(self.before.rows.as_slice(), name);
+                let property = self.position_of(alloc, name)?;
                 self.take_value(alloc, property, field)
             }
             _ => Err(Refusal::Code(602)),

@@ -1,4 +1,4 @@
-ghost use Rattle.std.specs.Prelude.{◌≡◌, ◌≢◌, false, ◌<◌, length, position, IfOk, IfSome};
+ghost use Rattle.std.specs.Prelude.{◌≡◌, ◌≢◌, false, IfOk};
 ghost use Rattle.std.specs.List.{list_any};
 ghost use Rattle.sq_schema.specs.Properties as properties;
 ghost use Rattle.sq_corpus.specs.Lines as spec;
@@ -67,10 +67,46 @@ pub(crate) fn is_taken(rows: &[Property], name: &str) -> bool
     rows.iter().any(|row| has_name(row, name))
 }
 
-/// The first row of that name.
-pub(crate) fn position_of(rows: &[Property], name: &str) -> Option<usize>
-    ensures value { result ≡ position (properties.has_name name.now) rows.now }
-    ensures within { IfSome result (λ at. at < length rows.now) }
+fn copy_of(alloc: Global, row: &Property) -> Result<Property, AllocError>
+    ensures { IfOk result (λ copy. copy ≡ row.now) }
 {
-    rows.iter().position(|row| has_name(row, name))
+    Ok(Property {
+        name: Text::from_str(alloc, row.name.as_str())?,
+        kind: row.kind,
+        searchable: row.searchable,
+        multi: row.multi,
+        refinable: row.refinable,
+    })
+}
+
+fn copies_of(alloc: Global, rows: &[Property]) -> Result<Vec<Property>, AllocError>
+    ensures { IfOk result (λ copies. copies.items ≡ rows.now) }
+{
+    let mut copies = Vec::new(alloc);
+    for row in rows {
+        copies.push(copy_of(alloc, row)?)?;
+    }
+    Ok(copies)
+}
+
+/// The schema of rows that have no fault.
+pub(crate) fn schema_of(alloc: Global, rows: Vec<Property>) -> Result<Schema, AllocError>
+    requires { properties.IsSchema rows.items }
+    ensures { IfOk result (λ schema. schema ≡ rows.items) }
+{
+    match Schema::new(alloc, rows) {
+        Ok(schema) => Ok(schema),
+        Err(SchemaFault::NoMemory) => Err(AllocError),
+        Err(SchemaFault::TooMany) => unreachable!(),
+        Err(SchemaFault::BadRow(_)) => unreachable!(),
+        Err(SchemaFault::Repeated(_)) => unreachable!(),
+    }
+}
+
+/// The schema of copies of rows that have no fault.
+pub(crate) fn schema_of_copies(alloc: Global, rows: &[Property]) -> Result<Schema, AllocError>
+    requires { properties.IsSchema rows.now }
+    ensures { IfOk result (λ schema. schema ≡ rows.now) }
+{
+    schema_of(alloc, copies_of(alloc, rows)?)
 }

@@ -22,11 +22,11 @@ returns-in-Err-clause-reads c =
 pub returns-clause-valid : goal.returns-clause-valid
 returns-clause-valid c =
     answer_valid c.args.bytes.now c.end_of.result c.requires
-    (reads_end c.loop-line.number c.loop-line.reader.before c.into_before.result c.loop-line.rest.now c.args.bytes.now c.end_of.result
-    c.in_default.ensures c.loop-line.invariant.0 c.into_before.ensures c.end_of.ensures)
+    (reads_end c.loop-line.number c.loop-line.reader.before c.loop-line.rest.now c.args.bytes.now c.end_of.result
+    c.in_default.ensures c.loop-line.invariant.0 c.end_of.ensures)
 
 pub returns-clause-short : goal.returns-clause-short
 returns-clause-short c =
     answer_short c.args.bytes.now c.end_of.result c.requires
-    (reads_end c.loop-line.number c.loop-line.reader.before c.into_before.result c.loop-line.rest.now c.args.bytes.now c.end_of.result
-    c.in_default.ensures c.loop-line.invariant.0 c.into_before.ensures c.end_of.ensures)
+    (reads_end c.loop-line.number c.loop-line.reader.before c.loop-line.rest.now c.args.bytes.now c.end_of.result
+    c.in_default.ensures c.loop-line.invariant.0 c.end_of.ensures)
