@@ -65,12 +65,36 @@ pub(crate) fn may_stand(stage: Stage, kind: LineKind) -> bool
     }
 }
 
+// The item, whose list of values has no room to spare.
+fn without_spare(item: Item) -> Item
+    ensures { result ≡ item }
+{
+    let Item {
+        number,
+        rank,
+        url,
+        allow,
+        deny,
+        values,
+    } = item;
+    let mut values = values.into_vec();
+    values.shrink_to_fit();
+    Item {
+        number,
+        rank,
+        url,
+        allow,
+        deny,
+        values: List::from_vec(values),
+    }
+}
+
 /// Puts the item that is read to the others.
 pub(crate) fn close(before: &mut Before) -> Result<(), AllocError>
     ensures { OnOk result (before.new ≡ spec.closed before.old) }
 {
     if let Some(item) = before.item.take() {
-        before.items.push(item)?;
+        before.items.push(without_spare(item))?;
     }
     Ok(())
 }

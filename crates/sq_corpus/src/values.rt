@@ -55,11 +55,11 @@ pub(crate) fn are_names(fields: &[&str]) -> bool
 pub(crate) fn copies_of(alloc: Global, fields: &[&str]) -> Result<List<Text>, AllocError>
     ensures { IfOk result (λ texts. texts ≡ map (λ field. field.now) fields.now) }
 {
-    let mut texts = List::new(alloc);
+    let mut texts = Vec::with_capacity(alloc, fields.len())?;
     for field in fields {
         texts.push(Text::from_str(alloc, field)?)?;
     }
-    Ok(texts)
+    Ok(List::from_vec(texts))
 }
 
 /// The number of an item, from 1 to 4,294,967,294.
