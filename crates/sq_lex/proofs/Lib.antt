@@ -1,0 +1,5 @@
+pub mod DigitsLemmas
+pub mod ListLemmas
+pub mod LoopLemmas
+pub mod PieceLemmas
+pub mod WholeLemmas
