@@ -1,5 +1,5 @@
 -- Lexemes that stand in order spell the tree that is read of them.
-use Rattle.std.proofs.Common.{◌≡◌, ℕ, zero, suc, ◌+◌, ◌-◌, ◌==◌, nat_lt, nat_le, ◌≤◌, ◌<◌, ℤ, Bool, true, false, List, [], ◌∷◌, ◌++◌, length, Option, Some, None, Result, Ok, Err, refl, sym, subst, ap, ap₂, ◌∙◌, append_assoc, length-append, ◌⊎◌, inl, inr, arith}
+use Rattle.std.proofs.Common.{◌≡◌, ℕ, zero, suc, ◌+◌, ◌-◌, ◌==◌, nat_lt, nat_le, if◌then◌else◌, ◌≤◌, ◌<◌, ℤ, Bool, true, false, List, [], ◌∷◌, ◌++◌, length, Option, Some, None, Result, Ok, Err, refl, sym, subst, ap, ap₂, ◌∙◌, append_assoc, length-append, ◌⊎◌, inl, inr, arith}
 use Rattle.std.proofs.lemmas.List.{append-nil}
 use Rattle.std.proofs.lemmas.Bool.Decides.{nat_tests}
 use Rattle.std.specs.List.{AllByRecursion}
@@ -19,6 +19,7 @@ use Rattle.sq_kql.specs.declared.raw.KRaw.TheVariants as tree
 use Rattle.sq_kql.specs.declared.order.State.{State}
 use Rattle.sq_kql.specs.declared.order.State.TheVariants as state
 use Rattle.sq_kql.specs.declared.order.Standing.{Standing}
+use Rattle.sq_kql.specs.declared.codes.TheConstants.{UNCLOSED_PAREN}
 use Rattle.sq_kql.specs.declared.level.Sign.{Sign}
 use Rattle.sq_kql.specs.declared.level.Placed.{Placed}
 use Rattle.sq_kql.specs.declared.level.Operand.{Operand}
@@ -399,8 +400,8 @@ open_step z x is xs now r g =
 close_around : (z : Text) (x : KLexeme) → x.kind ≡ kind.RightParen → (xs : List KLexeme) (l : Level) → LevelOf z xs state.Had l → (levels : ℕ)
     → (ys : List KLexeme) (outer : List Outer) → Around z ys outer → length outer ≡ levels → 0 < levels
     → ReadingOf z ((ys ++ xs) ++ x ∷ []) (standing state.Had (levels - 1)) (shift z (reading l outer) x)
-close_around z x is xs l v levels _ _ outermost depth open = absurd (omega (arith, depth, open))
-close_around z x is xs l v levels _ _ (inside p ws vs outer now m around u opens) depth open =
+close_around z x is xs l v levels _ _ outermost depth parted = absurd (omega (arith, depth, parted))
+close_around z x is xs l v levels _ _ (inside p ws vs outer now m around u opens) depth parted =
     let o : Outer = record { level = m; at = p.from } in
     let w = level_whole z xs l v in
     let us = p ∷ (xs ++ x ∷ []) in
@@ -421,9 +422,9 @@ close_around z x is xs l v levels _ _ (inside p ws vs outer now m around u opens
 
 close_step : (z : Text) (x : KLexeme) → x.kind ≡ kind.RightParen → (xs : List KLexeme) (now : Standing) (r : Reading) → ReadingOf z xs now r → now.state ≡ state.Had → 0 < now.levels
     → ReadingOf z (xs ++ x ∷ []) (standing state.Had (now.levels - 1)) (shift z r x)
-close_step z x is xs now r g had open =
+close_step z x is xs now r g had parted =
     let Level_of : State → Type 0 = λ s. LevelOf z g.level_xs s g.level in
-    let c = close_around z x is g.level_xs g.level (subst Level_of had g.of) now.levels g.around_xs g.outer g.around g.depth open in
+    let c = close_around z x is g.level_xs g.level (subst Level_of had g.of) now.levels g.around_xs g.outer g.around g.depth parted in
     let Of : List KLexeme → Type 0 = λ ys. ReadingOf z (ys ++ x ∷ []) (standing state.Had (now.levels - 1)) (shift z r x) in
     let By : Reading → Type 0 = λ q. ReadingOf z ((g.around_xs ++ g.level_xs) ++ x ∷ []) (standing state.Had (now.levels - 1)) (shift z q x) in
     subst Of (sym g.split) (subst By (sym g.is) c)
@@ -442,20 +443,30 @@ sign_ok state.Signed levels at to h = absurd cc
 sign_ok state.Nearing levels at to h = absurd cc
 sign_ok state.Had levels at to h = (inr refl, cc)
 
+abbrev done_or : Bool → ℕ → ℕ → Outcome (Unit {0})
+done_or t code at = if t then Ok tt else refused code at
+
+zero_of : (levels : ℕ) (t : Bool) (code at : ℕ) → (levels == 0) ≡ t → done_or t code at ≡ Ok tt → levels ≡ 0
+zero_of levels true code at is h = grind (arith, nat_tests)
+zero_of levels false code at is h = absurd cc
+
 ending_ok : (s : State) (levels len : ℕ) → ending s levels len ≡ Ok tt → (s ≡ state.Had) × (levels ≡ 0)
 ending_ok state.Wanted levels len h = absurd cc
 ending_ok state.Signed levels len h = absurd cc
 ending_ok state.Nearing levels len h = absurd cc
-ending_ok state.Had zero len h = (refl, refl)
-ending_ok state.Had (suc levels) len h = absurd cc
+ending_ok state.Had levels len h = (refl, zero_of levels (levels == 0) UNCLOSED_PAREN len refl h)
 
 open_ok : (t : Bool) (o : Standing) (code at : ℕ) (to : Standing) → (if t then Ok o else refused code at) ≡ Ok to → o ≡ to
 open_ok true o code at to h = cc
 open_ok false o code at to h = absurd cc
 
+close_by : (levels : ℕ) (t : Bool) (o : Outcome Standing) (code at : ℕ) (to : Standing) → (levels == 0) ≡ t → (if t then refused code at else o) ≡ Ok to
+    → (0 < levels) × (o ≡ Ok to)
+close_by levels true o code at to is h = absurd cc
+close_by levels false o code at to is h = (grind (arith, nat_tests), h)
+
 close_ok : (levels : ℕ) (o : Outcome Standing) (code at : ℕ) (to : Standing) → (if levels == 0 then refused code at else o) ≡ Ok to → (0 < levels) × (o ≡ Ok to)
-close_ok zero o code at to h = absurd cc
-close_ok (suc levels) o code at to h = (omega arith, h)
+close_ok levels o code at to h = close_by levels (levels == 0) o code at to refl h
 
 became : (z : Text) (xs : List KLexeme) (a b : Standing) (r : Reading) → a ≡ b → ReadingOf z xs a r → ReadingOf z xs b r
 became z xs a b r is g = let Of : Standing → Type 0 = λ s. ReadingOf z xs s r in subst Of is g
@@ -520,9 +531,9 @@ single_step z x xs now to r (kind.Onear n) is alone h g =
     let Of : KKind → Type 0 = λ k. IsProximity k n true in near_step z x n true (subst Of (sym is) ordered) xs now to r g h
 single_step z x xs now to r kind.LeftParen is alone h g = became z _ _ to _ (open_ok _ _ _ _ to h) (open_step z x is xs now r g)
 single_step z x xs now to r kind.RightParen is alone h g =
-    let open = close_ok now.levels _ _ _ to h in
-    let ok = after_ok now.state (standing state.Had (now.levels - 1)) x.from to open.1 in
-    became z _ _ to _ ok.1 (close_step z x is xs now r g ok.0 open.0)
+    let parted = close_ok now.levels _ _ _ to h in
+    let ok = after_ok now.state (standing state.Had (now.levels - 1)) x.from to parted.1 in
+    became z _ _ to _ ok.1 (close_step z x is xs now r g ok.0 parted.0)
 single_step z x xs now to r (kind.Words count) is alone h g = absurd cc
 single_step z x xs now to r kind.WordsEnd is alone h g = absurd cc
 
@@ -534,10 +545,10 @@ record Listed (z : Text) (xs : List KLexeme) : Type 0 where
   pub count : length pieces ≡ length xs
 
 listed_of : (z : Text) (xs : List KLexeme) → AllByRecursion IsFree xs → Listed z xs
-listed_of z [] all = record { pieces = []; lists = no_items; count = refl }
-listed_of z (x ∷ xs) all =
-    let rest = listed_of z xs all.1 in
-    record { pieces = piece z all.0.0 ∷ rest.pieces; lists = more_items x xs rest.pieces all.0.0 all.0.1 rest.lists; count = ap suc rest.count }
+listed_of z [] each = record { pieces = []; lists = no_items; count = refl }
+listed_of z (x ∷ xs) each =
+    let rest = listed_of z xs each.1 in
+    record { pieces = piece z each.0.0 ∷ rest.pieces; lists = more_items x xs rest.pieces each.0.0 each.0.1 rest.lists; count = ap suc rest.count }
 
 -- ---- all lexemes
 
@@ -557,19 +568,19 @@ operand_goes k c now at f is goes_on = ap (λ j. step (role_of j) now at >>= f) 
 
 items_go : (len levels : ℕ) (xs ys : List KLexeme) → AllByRecursion IsFree xs → order_from (standing state.Had levels) len (xs ++ ys) ≡ order_from (standing state.Had levels) len ys
 unfolding order_from
-items_go len levels [] ys all = refl
-items_go len levels (x ∷ xs) ys all =
-    operand_goes x.kind (kind.Free all.0.0) (standing state.Had levels) x.from (λ next. order_from next len (xs ++ ys)) all.0.1 refl ∙ items_go len levels xs ys all.1
+items_go len levels [] ys each = refl
+items_go len levels (x ∷ xs) ys each =
+    operand_goes x.kind (kind.Free each.0.0) (standing state.Had levels) x.from (λ next. order_from next len (xs ++ ys)) each.0.1 refl ∙ items_go len levels xs ys each.1
 
 list_goes : (len : ℕ) (now : Standing) (x y : KLexeme) (items xs : List KLexeme) (n : ℕ) → x.kind ≡ kind.Words n → AllByRecursion IsFree items → y.kind ≡ kind.WordsEnd
     → order_from now len (x ∷ (items ++ y ∷ xs)) ≡ order_from (standing state.Had now.levels) len xs
 unfolding order_from
-list_goes len now x y items xs n is all end =
+list_goes len now x y items xs n is each end =
     operand_goes x.kind (kind.Words n) now x.from (λ next. order_from next len (items ++ y ∷ xs)) is refl
-    ∙ (items_go len now.levels items (y ∷ xs) all
+    ∙ (items_go len now.levels items (y ∷ xs) each
     ∙ operand_goes y.kind kind.WordsEnd (standing state.Had now.levels) y.from (λ next. order_from next len xs) end refl)
 
--- at the end no level is open
+-- at the end no level is parted
 around_none : (z : Text) (ys : List KLexeme) (outer : List Outer) → Around z ys outer → length outer ≡ 0 → ys ≡ []
 around_none z _ _ outermost depth = refl
 around_none z _ _ (inside p ws vs outer now m around u opens) depth = absurd (omega (arith, depth, length-append outer (record { level = m; at = p.from } ∷ [])))
@@ -600,13 +611,13 @@ all_read z len _ (single x rest alone listed) xs now r g h =
     let Of : List KLexeme → Type 0 = λ ys. WholeOf z ys (whole (reads z (shift z r x) rest).level) in
     subst Of (append_assoc xs (x ∷ []) rest)
     (all_read z len rest listed (xs ++ x ∷ []) n.next (shift z r x) (single_step z x xs now n.next r x.kind refl alone n.is g) n.on)
-all_read z len _ (list x y items rest is all end listed) xs now r g h =
-    let l = listed_of z items all in
+all_read z len _ (list x y items rest is each end listed) xs now r g h =
+    let l = listed_of z items each in
     let us = x ∷ (items ++ y ∷ []) in
     let b = words x y items l.pieces (is ∙ ap kind.Words (sym l.count)) l.lists end in
     let same : us ++ rest ≡ x ∷ (items ++ y ∷ rest) = ap (λ ys. x ∷ ys) (append_assoc items (y ∷ []) rest) in
     let w = all_read z len rest listed (xs ++ us) (standing state.Had now.levels) (reads z r us) (operand_step z us (tree.Words x.from l.pieces) b xs now r g)
-        (sym (list_goes len now x y items rest (length items) is all end) ∙ h) in
+        (sym (list_goes len now x y items rest (length items) is each end) ∙ h) in
     let Of : List KLexeme → Type 0 = λ ys. WholeOf z ys (whole (reads z (reads z r us) rest).level) in
     let By : Reading → Type 0 = λ q. WholeOf z (xs ++ x ∷ (items ++ y ∷ rest)) (whole q.level) in
     let read : reads z (reads z r us) rest ≡ reads z r (x ∷ (items ++ y ∷ rest)) = sym (reads_on z r (reads z r us) us rest refl) ∙ ap (reads z r) same in

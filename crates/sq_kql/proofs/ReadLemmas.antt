@@ -23,52 +23,52 @@ use Rattle.sq_kql.specs.declared.level.Outer.{Outer}
 use Rattle.sq_kql.specs.Tree.{placed, operand, operand_node, join_run, run_node, no_parts, with_part, and_node, or_node, closed, with_operand, with_sign, with_proximity, with_and, with_or, ranked_by, whole, with_xrank}
 use Rattle.sq_kql.specs.Grammar.{IsSign, plus, minus, negation, IsProximity, first_at, SpellsBasic, SpellsChain, basic, near, SpellsSigned, signed, SpellsOperand, plain, behind_sign, SpellsOperands, one_operand, more_operands, SpellsRun, lone, lone_signed, run, SpellsRuns, one_run, more_runs, SpellsAnd, lone_run, and, SpellsAnds, one_and, more_ands, SpellsOr, lone_and, or, Spells, unranked, xrank}
 use Rattle.sq_kql.proofs.LevelLemmas.{start, running, parts, closed_some}
-use Rattle.sq_kql.proofs.UniqueLemmas.{Filled, filled_chain, filled_operands, filled_runs, filled_ands, filled, of_sign, plain_node, signed_node, many_node, run_end, part_one, part_more, some_more, and_one, and_many, or_one, or_many, and_level, or_level, xrank_level}
+use Rattle.sq_kql.proofs.UniqueLemmas.{Filled, not_zero, filled_chain, filled_operands, filled_runs, filled_ands, filled, of_sign, plain_node, signed_node, many_node, run_end, part_one, part_more, some_more, and_one, and_many, or_one, or_many, and_level, or_level, xrank_level}
 
 -- ---- what the parts of a level spell
 
 -- the left side of XRANK, with its word
-data RankPart (z : Text) : List KLexeme → Option Ranking → Type 0 where
+pub data RankPart (z : Text) : List KLexeme → Option Ranking → Type 0 where
   no_rank : RankPart z [] None
   some_rank : (x : KLexeme) (xs : List KLexeme) (t : KRaw) (cb : ℤ) → Spells z xs t → x.kind ≡ kind.Xrank cb
       → RankPart z (xs ++ x ∷ []) (Some (record { matched = placed (first_at xs) t; cb = cb }))
 
 -- the parts of OR before its last word, with that
-data OrsPart (z : Text) : List KLexeme → Parts → Type 0 where
+pub data OrsPart (z : Text) : List KLexeme → Parts → Type 0 where
   no_ors : OrsPart z [] no_parts
   some_ors : (x : KLexeme) (xs : List KLexeme) (ts : List KRaw) → SpellsAnds z xs ts → 1 ≤ length ts → x.kind ≡ kind.Or → OrsPart z (xs ++ x ∷ []) (parts (first_at xs) ts)
 
-data AndsPart (z : Text) : List KLexeme → Parts → Type 0 where
+pub data AndsPart (z : Text) : List KLexeme → Parts → Type 0 where
   no_ands : AndsPart z [] no_parts
   some_ands : (x : KLexeme) (xs : List KLexeme) (ts : List KRaw) → SpellsRuns z xs ts → 1 ≤ length ts → x.kind ≡ kind.And → AndsPart z (xs ++ x ∷ []) (parts (first_at xs) ts)
 
 -- operands of a run, and the run that they are alone
-record RunOf (z : Text) (xs : List KLexeme) (first : Operand) (others : List KRawOperand) : Type 0 where
+pub record RunOf (z : Text) (xs : List KLexeme) (first : Operand) (others : List KRawOperand) : Type 0 where
   pub operands : SpellsOperands z xs (operand_node first ∷ others)
   pub place : first.at ≡ first_at xs
   pub tree : KRaw
   pub spells : SpellsRun z xs tree
   pub node : run_node (Some first) others ≡ placed (first_at xs) tree
 
-data RunPart (z : Text) : List KLexeme → Option Operand → List KRawOperand → Type 0 where
+pub data RunPart (z : Text) : List KLexeme → Option Operand → List KRawOperand → Type 0 where
   no_run : RunPart z [] None []
   some_run : (xs : List KLexeme) (first : Operand) (others : List KRawOperand) → RunOf z xs first others → RunPart z xs (Some first) others
 
-record OperandOf (z : Text) (xs : List KLexeme) (o : Operand) : Type 0 where
+pub record OperandOf (z : Text) (xs : List KLexeme) (o : Operand) : Type 0 where
   pub operand : SpellsOperand z xs (operand_node o)
   pub place : o.at ≡ first_at xs
   pub tree : KRaw
   pub spells : SpellsRun z xs tree
   pub node : run_node (Some o) [] ≡ placed (first_at xs) tree
 
-abbrev sign_of : RawSign → ℕ → Sign
+abbrev pub sign_of : RawSign → ℕ → Sign
 sign_of s at = record { sign = s; at = at }
 
-abbrev near_of : ℕ → KRaw → ℕ → Bool → Nearing
+abbrev pub near_of : ℕ → KRaw → ℕ → Bool → Nearing
 near_of at t n o = record { left = placed at t; n = n; ordered = o }
 
 -- what stands behind the operands of the run, by state
-data Pending (z : Text) : List KLexeme → State → Option Sign → Option Nearing → Option Placed → Type 0 where
+pub data Pending (z : Text) : List KLexeme → State → Option Sign → Option Nearing → Option Placed → Type 0 where
   wanted : Pending z [] state.Wanted None None None
   waits : (x : KLexeme) (s : RawSign) → IsSign x.kind s → Pending z (x ∷ []) state.Signed (Some (sign_of s x.from)) None None
   near_plain : (x : KLexeme) (xs : List KLexeme) (t : KRaw) (n : ℕ) (o : Bool) → SpellsChain z xs t → IsProximity x.kind n o
@@ -79,12 +79,12 @@ data Pending (z : Text) : List KLexeme → State → Option Sign → Option Near
   had_signed : (y : KLexeme) (s : RawSign) (xs : List KLexeme) (t : KRaw) (at : ℕ) → IsSign y.kind s → SpellsChain z xs t → at ≡ first_at xs
       → Pending z (y ∷ xs) state.Had (Some (sign_of s y.from)) None (Some (placed at t))
 
-abbrev level_of : Option Ranking → Parts → Parts → Option Operand → List KRawOperand → Option Sign → Option Nearing → Option Placed → Level
+abbrev pub level_of : Option Ranking → Parts → Parts → Option Operand → List KRawOperand → Option Sign → Option Nearing → Option Placed → Level
 level_of ranking ors ands first others s n last =
     record { ranking = ranking; ors = ors; ands = ands; first = first; others = others; sign = s; nearing = n; last = last }
 
 -- what stands before the pending part of a level
-record Stretch (z : Text) (xs : List KLexeme) (ranking : Option Ranking) (ors ands : Parts) (first : Option Operand) (others : List KRawOperand) : Type 0 where
+pub record Stretch (z : Text) (xs : List KLexeme) (ranking : Option Ranking) (ors ands : Parts) (first : Option Operand) (others : List KRawOperand) : Type 0 where
   pub ranks : List KLexeme
   pub alternatives : List KLexeme
   pub conjuncts : List KLexeme
@@ -95,7 +95,7 @@ record Stretch (z : Text) (xs : List KLexeme) (ranking : Option Ranking) (ors an
   pub ands_part : AndsPart z conjuncts ands
   pub run_part : RunPart z operands first others
 
-record LevelOf (z : Text) (xs : List KLexeme) (now : State) (l : Level) : Type 0 where
+pub record LevelOf (z : Text) (xs : List KLexeme) (now : State) (l : Level) : Type 0 where
   pub ranking : Option Ranking
   pub ors : Parts
   pub ands : Parts
@@ -113,16 +113,16 @@ record LevelOf (z : Text) (xs : List KLexeme) (now : State) (l : Level) : Type 0
 
 -- ---- an operand joins the run
 
-operand_plain : (z : Text) (xs : List KLexeme) (t : KRaw) (at : ℕ) → SpellsChain z xs t → at ≡ first_at xs → OperandOf z xs (of_sign sign.Plain at t)
+pub operand_plain : (z : Text) (xs : List KLexeme) (t : KRaw) (at : ℕ) → SpellsChain z xs t → at ≡ first_at xs → OperandOf z xs (of_sign sign.Plain at t)
 operand_plain z xs t at chain is = record {
-  operand = let Of = λ n. SpellsOperand z xs (operand_node (of_sign sign.Plain n t)) in subst Of (sym is) (plain xs t chain);
+  operand = let Of : ℕ → Type 0 = λ n. SpellsOperand z xs (operand_node (of_sign sign.Plain n t)) in subst Of (sym is) (plain xs t chain);
   place = is;
   tree = t;
   spells = lone xs t chain;
   node = plain_node at t ∙ ap (λ n. placed n t) is;
 }
 
-operand_signed : (z : Text) (y : KLexeme) (s : RawSign) (xs : List KLexeme) (t : KRaw) → IsSign y.kind s → SpellsChain z xs t → OperandOf z (y ∷ xs) (of_sign s y.from t)
+pub operand_signed : (z : Text) (y : KLexeme) (s : RawSign) (xs : List KLexeme) (t : KRaw) → IsSign y.kind s → SpellsChain z xs t → OperandOf z (y ∷ xs) (of_sign s y.from t)
 operand_signed z y s xs t is chain = record {
   operand = behind_sign (y ∷ xs) _ (signed y xs s t is chain);
   place = refl;
@@ -131,12 +131,12 @@ operand_signed z y s xs t is chain = record {
   node = signed_node y.kind s y.from t is;
 }
 
-more_some : {X : Type 0} (xs : List X) (x : X) → 1 ≤ length xs → 2 ≤ length (xs ++ x ∷ [])
+pub more_some : {X : Type 0} (xs : List X) (x : X) → 1 ≤ length xs → 2 ≤ length (xs ++ x ∷ [])
 more_some [] x some = absurd (omega arith)
 more_some (y ∷ []) x some = omega arith
 more_some (y ∷ (w ∷ xs)) x some = omega arith
 
-run_more : (z : Text) (xs ys : List KLexeme) (first : Operand) (others : List KRawOperand) (o : Operand) → RunOf z xs first others → OperandOf z ys o
+pub run_more : (z : Text) (xs ys : List KLexeme) (first : Operand) (others : List KRawOperand) (o : Operand) → RunOf z xs first others → OperandOf z ys o
     → RunOf z (xs ++ ys) first (others ++ operand_node o ∷ [])
 run_more z xs ys first others o r s =
     let nodes = operand_node first ∷ others in
@@ -151,14 +151,14 @@ run_more z xs ys first others o r s =
       node = many_node first (others ++ operand_node o ∷ []) _ _ refl place many;
     }
 
-record Joined (z : Text) (xs : List KLexeme) (first : Option Operand) (others : List KRawOperand) (o : Operand) : Type 0 where
+pub record Joined (z : Text) (xs : List KLexeme) (first : Option Operand) (others : List KRawOperand) (o : Operand) : Type 0 where
   pub head : Operand
   pub rest : List KRawOperand
   pub run_of : RunOf z xs head rest
   pub is : (ranking : Option Ranking) (ors ands : Parts) (sg : Option Sign) (nr : Option Nearing) (last : Option Placed)
       → join_run first o (level_of ranking ors ands first others sg nr last) ≡ level_of ranking ors ands (Some head) rest None nr None
 
-joined : (z : Text) (ys : List KLexeme) (o : Operand) (xs : List KLexeme) (first : Option Operand) (others : List KRawOperand)
+pub joined : (z : Text) (ys : List KLexeme) (o : Operand) (xs : List KLexeme) (first : Option Operand) (others : List KRawOperand)
     → RunPart z xs first others → OperandOf z ys o → Joined z (xs ++ ys) first others o
 joined z ys o _ _ _ no_run s = record {
   head = o;
@@ -173,18 +173,18 @@ joined z ys o _ _ _ (some_run xs first others r) s = record {
   is = λ ranking ors ands sg nr last. refl;
 }
 
-record HadOf (z : Text) (xs : List KLexeme) (sg : Option Sign) (nr : Option Nearing) (last : Option Placed) : Type 0 where
+pub record HadOf (z : Text) (xs : List KLexeme) (sg : Option Sign) (nr : Option Nearing) (last : Option Placed) : Type 0 where
   pub tree : Placed
   pub last_is : last ≡ Some tree
   pub nr_is : nr ≡ None
   pub operand_of : OperandOf z xs (operand sg tree)
 
-had_of : (z : Text) (xs : List KLexeme) (sg : Option Sign) (nr : Option Nearing) (last : Option Placed) → Pending z xs state.Had sg nr last → HadOf z xs sg nr last
+pub had_of : (z : Text) (xs : List KLexeme) (sg : Option Sign) (nr : Option Nearing) (last : Option Placed) → Pending z xs state.Had sg nr last → HadOf z xs sg nr last
 had_of z _ _ _ _ (had_plain xs t at chain is) = record { tree = placed at t; last_is = refl; nr_is = refl; operand_of = operand_plain z xs t at chain is }
 had_of z _ _ _ _ (had_signed y s xs t at is chain place) = record { tree = placed at t; last_is = refl; nr_is = refl; operand_of = operand_signed z y s xs t is chain }
 
 -- a level whose last operand has joined the run
-record ClosedOf (z : Text) (xs : List KLexeme) (l : Level) : Type 0 where
+pub record ClosedOf (z : Text) (xs : List KLexeme) (l : Level) : Type 0 where
   pub ranking : Option Ranking
   pub ors : Parts
   pub ands : Parts
@@ -202,11 +202,11 @@ record ClosedOf (z : Text) (xs : List KLexeme) (l : Level) : Type 0 where
   pub is : closed l ≡ running ranking ors ands head rest
 
 -- more lexemes at the end of a stretch's operands
-longer : (xs r o a f e : List KLexeme) → xs ≡ r ++ (o ++ (a ++ f)) → xs ++ e ≡ r ++ (o ++ (a ++ (f ++ e)))
+pub longer : (xs r o a f e : List KLexeme) → xs ≡ r ++ (o ++ (a ++ f)) → xs ++ e ≡ r ++ (o ++ (a ++ (f ++ e)))
 longer xs r o a f e is =
     ap (λ l. l ++ e) is ∙ (append_assoc r (o ++ (a ++ f)) e ∙ ap (λ l. r ++ l) (append_assoc o (a ++ f) e ∙ ap (λ l. o ++ l) (append_assoc a f e)))
 
-close_level : (z : Text) (xs : List KLexeme) (l : Level) → LevelOf z xs state.Had l → ClosedOf z xs l
+pub close_level : (z : Text) (xs : List KLexeme) (l : Level) → LevelOf z xs state.Had l → ClosedOf z xs l
 close_level z xs l v =
     let s = v.stretch in
     let h = had_of z v.end v.sg v.nr v.last v.pending in
@@ -233,15 +233,14 @@ close_level z xs l v =
 
 -- ---- what is whole
 
-not_none : {X : Type 0} (xs : List X) → 1 ≤ length xs → (length xs == 0) ≡ false
-not_none [] some = absurd (omega arith)
-not_none (x ∷ xs) some = refl
+pub not_none : {X : Type 0} (xs : List X) → 1 ≤ length xs → (length xs == 0) ≡ false
+not_none xs some = not_zero (length xs) some
 
 -- a place behind an operator, as a place of the whole
-place_on : (x : KLexeme) (xs ys : List KLexeme) → Filled xs → first_at xs ≡ first_at ((xs ++ x ∷ []) ++ ys)
+pub place_on : (x : KLexeme) (xs ys : List KLexeme) → Filled xs → first_at xs ≡ first_at ((xs ++ x ∷ []) ++ ys)
 place_on x xs ys some = sym (ap first_at (append_assoc xs (x ∷ []) ys) ∙ some (x ∷ ys))
 
-record AndsOf (z : Text) (xs : List KLexeme) (ps : Parts) : Type 0 where
+pub record AndsOf (z : Text) (xs : List KLexeme) (ps : Parts) : Type 0 where
   pub trees : List KRaw
   pub runs : SpellsRuns z xs trees
   pub some : 1 ≤ length trees
@@ -250,7 +249,7 @@ record AndsOf (z : Text) (xs : List KLexeme) (ps : Parts) : Type 0 where
   pub spells : SpellsAnd z xs tree
   pub node : and_node ps ≡ placed (first_at xs) tree
 
-ands_of : (z : Text) (ys : List KLexeme) (t : KRaw) → SpellsRun z ys t → (xs : List KLexeme) (ps : Parts) → AndsPart z xs ps
+pub ands_of : (z : Text) (ys : List KLexeme) (t : KRaw) → SpellsRun z ys t → (xs : List KLexeme) (ps : Parts) → AndsPart z xs ps
     → AndsOf z (xs ++ ys) (with_part ps (placed (first_at ys) t))
 ands_of z ys t s _ _ no_ands = record {
   trees = t ∷ [];
@@ -278,7 +277,7 @@ ands_of z ys t s _ _ (some_ands x xs ts front some is) =
       node = ap and_node same ∙ and_many (first_at all) (ts ++ t ∷ []) many;
     }
 
-record OrsOf (z : Text) (xs : List KLexeme) (ps : Parts) : Type 0 where
+pub record OrsOf (z : Text) (xs : List KLexeme) (ps : Parts) : Type 0 where
   pub trees : List KRaw
   pub ands : SpellsAnds z xs trees
   pub some : 1 ≤ length trees
@@ -287,7 +286,7 @@ record OrsOf (z : Text) (xs : List KLexeme) (ps : Parts) : Type 0 where
   pub spells : SpellsOr z xs tree
   pub node : or_node ps ≡ placed (first_at xs) tree
 
-ors_of : (z : Text) (ys : List KLexeme) (t : KRaw) → SpellsAnd z ys t → (xs : List KLexeme) (ps : Parts) → OrsPart z xs ps
+pub ors_of : (z : Text) (ys : List KLexeme) (t : KRaw) → SpellsAnd z ys t → (xs : List KLexeme) (ps : Parts) → OrsPart z xs ps
     → OrsOf z (xs ++ ys) (with_part ps (placed (first_at ys) t))
 ors_of z ys t s _ _ no_ors = record {
   trees = t ∷ [];
@@ -320,7 +319,7 @@ pub record WholeOf (z : Text) (xs : List KLexeme) (p : Placed) : Type 0 where
   pub spells : Spells z xs tree
   pub is : p ≡ placed (first_at xs) tree
 
-rank_of : (z : Text) (ys : List KLexeme) (t : KRaw) → SpellsOr z ys t → (xs : List KLexeme) (ranking : Option Ranking) → RankPart z xs ranking
+pub rank_of : (z : Text) (ys : List KLexeme) (t : KRaw) → SpellsOr z ys t → (xs : List KLexeme) (ranking : Option Ranking) → RankPart z xs ranking
     → WholeOf z (xs ++ ys) (ranked_by ranking (placed (first_at ys) t))
 rank_of z ys t s _ _ no_rank = record { tree = t; spells = unranked ys t s; is = refl }
 rank_of z ys t s _ _ (some_rank x xs u cb left is) =
@@ -333,7 +332,7 @@ rank_of z ys t s _ _ (some_rank x xs u cb left is) =
     }
 
 -- a level whose run is whole
-record RunDone (z : Text) (xs : List KLexeme) (l : Level) : Type 0 where
+pub record RunDone (z : Text) (xs : List KLexeme) (l : Level) : Type 0 where
   pub ranking : Option Ranking
   pub ors : Parts
   pub ranks : List KLexeme
@@ -346,7 +345,7 @@ record RunDone (z : Text) (xs : List KLexeme) (l : Level) : Type 0 where
   pub ands_are : AndsOf z conjuncts ands
   pub is : with_and l ≡ start ranking ors ands
 
-run_done : (z : Text) (xs : List KLexeme) (l : Level) → LevelOf z xs state.Had l → RunDone z xs l
+pub run_done : (z : Text) (xs : List KLexeme) (l : Level) → LevelOf z xs state.Had l → RunDone z xs l
 run_done z xs l v =
     let c = close_level z xs l v in
     let r = c.run_of in
@@ -365,7 +364,7 @@ run_done z xs l v =
     }
 
 -- a level whose AND is whole
-record AndDone (z : Text) (xs : List KLexeme) (l : Level) : Type 0 where
+pub record AndDone (z : Text) (xs : List KLexeme) (l : Level) : Type 0 where
   pub ranking : Option Ranking
   pub ranks : List KLexeme
   pub alternatives : List KLexeme
@@ -375,7 +374,7 @@ record AndDone (z : Text) (xs : List KLexeme) (l : Level) : Type 0 where
   pub ors_are : OrsOf z alternatives ors
   pub is : with_or l ≡ start ranking ors no_parts
 
-and_done : (z : Text) (xs : List KLexeme) (l : Level) → LevelOf z xs state.Had l → AndDone z xs l
+pub and_done : (z : Text) (xs : List KLexeme) (l : Level) → LevelOf z xs state.Had l → AndDone z xs l
 and_done z xs l v =
     let d = run_done z xs l v in
     let a = d.ands_are in

@@ -1,5 +1,6 @@
 -- Lexemes that spell a tree are read as that tree.
-use Rattle.std.proofs.Common.{◌≡◌, ℕ, suc, ◌+◌, ◌==◌, ◌≤◌, ℤ, Bool, false, length, List, [], ◌∷◌, ◌++◌, Option, Some, None, refl, sym, ap, ap₂, ◌∙◌, append_assoc, arith}
+use Rattle.std.proofs.Common.{◌≡◌, ℕ, suc, ◌+◌, ◌==◌, ◌≤◌, ℤ, Bool, false, length, List, [], ◌∷◌, ◌++◌, Option, Some, None, refl, sym, ap, ap₂, ◌∙◌, append_assoc, length-append, arith}
+use Rattle.std.proofs.lemmas.Bool.Decides.{nat_tests}
 use Rattle.std.proofs.lemmas.List.{append-nil}
 use Rattle.std.proofs.lemmas.List.Sums.{fold-append}
 use Rattle.sq_lex.specs.declared.lexeme.KKind.{KKind}
@@ -109,22 +110,22 @@ abbrev pub ChainReads : Text → List KLexeme → KRaw → Type 0
 ChainReads z xs t = (l : Level) (outer : List Outer) → l.nearing ≡ None → reads z (reading l outer) xs ≡ reading (with_operand_by None l (placed (first_at xs) t)) outer
 
 -- an operand joins the run of a level
-record OperandRead (z : Text) (xs : List KLexeme) (o : Operand) (l : Level) (outer : List Outer) : Type 0 where
+pub record OperandRead (z : Text) (xs : List KLexeme) (o : Operand) (l : Level) (outer : List Outer) : Type 0 where
   pub level : Level
   pub same : reads z (reading l outer) xs ≡ reading level outer
   pub nearing : level.nearing ≡ None
   pub closes : closed level ≡ join_run (closed l).first o (closed l)
 
-abbrev Joins : Text → List KLexeme → Operand → Type 0
+abbrev pub Joins : Text → List KLexeme → Operand → Type 0
 Joins z xs o = (l : Level) (outer : List Outer) → l.nearing ≡ None → (closed l).sign ≡ None → OperandRead z xs o l outer
 
-record OperandReads (z : Text) (xs : List KLexeme) (o : KRawOperand) : Type 0 where
+pub record OperandReads (z : Text) (xs : List KLexeme) (o : KRawOperand) : Type 0 where
   pub joined : Operand
   pub node : operand_node joined ≡ o
   pub place : joined.at ≡ first_at xs
   pub joins : Joins z xs joined
 
-record OperandsRead (z : Text) (xs : List KLexeme) (os : List KRawOperand) (ranking : Option Ranking) (ors ands : Parts) (outer : List Outer) : Type 0 where
+pub record OperandsRead (z : Text) (xs : List KLexeme) (os : List KRawOperand) (ranking : Option Ranking) (ors ands : Parts) (outer : List Outer) : Type 0 where
   pub level : Level
   pub same : reads z (reading (start ranking ors ands) outer) xs ≡ reading level outer
   pub nearing : level.nearing ≡ None
@@ -138,7 +139,7 @@ abbrev pub OperandsReads : Text → List KLexeme → List KRawOperand → Type 0
 OperandsReads z xs os = (ranking : Option Ranking) (ors ands : Parts) (outer : List Outer) → OperandsRead z xs os ranking ors ands outer
 
 -- what stands at the end of a run
-record RunRead (z : Text) (xs : List KLexeme) (t : KRaw) (ranking : Option Ranking) (ors ands : Parts) (outer : List Outer) : Type 0 where
+pub record RunRead (z : Text) (xs : List KLexeme) (t : KRaw) (ranking : Option Ranking) (ors ands : Parts) (outer : List Outer) : Type 0 where
   pub level : Level
   pub same : reads z (reading (start ranking ors ands) outer) xs ≡ reading level outer
   pub closes : with_and level ≡ start ranking ors (with_part ands (placed (first_at xs) t))
@@ -146,7 +147,7 @@ record RunRead (z : Text) (xs : List KLexeme) (t : KRaw) (ranking : Option Ranki
 abbrev pub RunReads : Text → List KLexeme → KRaw → Type 0
 RunReads z xs t = (ranking : Option Ranking) (ors ands : Parts) (outer : List Outer) → RunRead z xs t ranking ors ands outer
 
-record RunsRead (z : Text) (xs : List KLexeme) (ts : List KRaw) (ranking : Option Ranking) (ors : Parts) (outer : List Outer) : Type 0 where
+pub record RunsRead (z : Text) (xs : List KLexeme) (ts : List KRaw) (ranking : Option Ranking) (ors : Parts) (outer : List Outer) : Type 0 where
   pub level : Level
   pub same : reads z (reading (start ranking ors no_parts) outer) xs ≡ reading level outer
   pub closes : with_and level ≡ start ranking ors (parts (first_at xs) ts)
@@ -155,7 +156,7 @@ record RunsRead (z : Text) (xs : List KLexeme) (ts : List KRaw) (ranking : Optio
 abbrev pub RunsReads : Text → List KLexeme → List KRaw → Type 0
 RunsReads z xs ts = (ranking : Option Ranking) (ors : Parts) (outer : List Outer) → RunsRead z xs ts ranking ors outer
 
-record AndRead (z : Text) (xs : List KLexeme) (t : KRaw) (ranking : Option Ranking) (ors : Parts) (outer : List Outer) : Type 0 where
+pub record AndRead (z : Text) (xs : List KLexeme) (t : KRaw) (ranking : Option Ranking) (ors : Parts) (outer : List Outer) : Type 0 where
   pub level : Level
   pub same : reads z (reading (start ranking ors no_parts) outer) xs ≡ reading level outer
   pub closes : with_or level ≡ start ranking (with_part ors (placed (first_at xs) t)) no_parts
@@ -163,7 +164,7 @@ record AndRead (z : Text) (xs : List KLexeme) (t : KRaw) (ranking : Option Ranki
 abbrev pub AndReads : Text → List KLexeme → KRaw → Type 0
 AndReads z xs t = (ranking : Option Ranking) (ors : Parts) (outer : List Outer) → AndRead z xs t ranking ors outer
 
-record AndsRead (z : Text) (xs : List KLexeme) (ts : List KRaw) (ranking : Option Ranking) (outer : List Outer) : Type 0 where
+pub record AndsRead (z : Text) (xs : List KLexeme) (ts : List KRaw) (ranking : Option Ranking) (outer : List Outer) : Type 0 where
   pub level : Level
   pub same : reads z (reading (start ranking no_parts no_parts) outer) xs ≡ reading level outer
   pub closes : with_or level ≡ start ranking (parts (first_at xs) ts) no_parts
@@ -173,7 +174,7 @@ abbrev pub AndsReads : Text → List KLexeme → List KRaw → Type 0
 AndsReads z xs ts = (ranking : Option Ranking) (outer : List Outer) → AndsRead z xs ts ranking outer
 
 -- what stands at the end of a level
-record WholeRead (z : Text) (xs : List KLexeme) (t : Placed) (ranking : Option Ranking) (outer : List Outer) : Type 0 where
+pub record WholeRead (z : Text) (xs : List KLexeme) (t : Placed) (ranking : Option Ranking) (outer : List Outer) : Type 0 where
   pub level : Level
   pub same : reads z (reading (start ranking no_parts no_parts) outer) xs ≡ reading level outer
   pub closes : whole level ≡ t
@@ -335,9 +336,11 @@ run_read z xs os s many ranking ors ands outer =
 
 -- ---- AND and OR
 
+pub not_zero : (n : ℕ) → 1 ≤ n → (n == 0) ≡ false
+not_zero n some = grind (arith, nat_tests)
+
 pub some_more : (ts : List KRaw) (t : KRaw) → (length (ts ++ t ∷ []) == 0) ≡ false
-some_more [] t = refl
-some_more (u ∷ ts) t = refl
+some_more ts t = let some : 1 ≤ length (ts ++ t ∷ []) = omega (arith, length-append ts (t ∷ [])) in not_zero _ some
 
 pub part_one : (p : Placed) → with_part no_parts p ≡ parts p.at (p.tree ∷ [])
 unfolding with_part
@@ -453,9 +456,9 @@ xrank_read z x xs ys t u cb some left is s outer =
 
 mutual
   pub basic_reads : (z : Text) (xs : List KLexeme) (t : KRaw) → SpellsBasic z xs t → BasicReads z xs t
-  basic_reads z _ _ (free x c is) l outer = shifted z (reading l outer) x (kind.Free c) is
-  basic_reads z _ _ (all x is) l outer = shifted z (reading l outer) x kind.All is
-  basic_reads z _ _ (restrict x name_to rel c upper is) l outer = shifted z (reading l outer) x (kind.Restrict name_to rel c upper) is
+  basic_reads z _ _ (free x c is) = λ l outer. shifted z (reading l outer) x (kind.Free c) is
+  basic_reads z _ _ (all x is) = λ l outer. shifted z (reading l outer) x kind.All is
+  basic_reads z _ _ (restrict x name_to rel c upper is) = λ l outer. shifted z (reading l outer) x (kind.Restrict name_to rel c upper) is
   basic_reads z _ _ (words x y xs ps is items end) = words_read z x y xs ps (length ps) is items end
   basic_reads z _ _ (group x y xs t is inner end) = group_read z x y xs t is (whole_reads z xs t inner) end
 
@@ -500,7 +503,7 @@ mutual
   or_reads z _ _ (or xs ts s many) = or_read z xs ts (ands_reads z xs ts s) many
 
   whole_reads : (z : Text) (xs : List KLexeme) (t : KRaw) → Spells z xs t → WholeReads z xs t
-  whole_reads z _ _ (unranked xs t s) outer = or_reads z xs t s None outer
+  whole_reads z _ _ (unranked xs t s) = λ outer. or_reads z xs t s None outer
   whole_reads z _ _ (xrank x xs ys t u cb left is right) = xrank_read z x xs ys t u cb (filled z xs t left) (whole_reads z xs t left) is (or_reads z ys u right)
 
 -- lexemes spell at most one tree, the one that is read
