@@ -3,3 +3,4 @@ pub mod ListLemmas
 pub mod LoopLemmas
 pub mod PieceLemmas
 pub mod WholeLemmas
+pub mod SoundLemmas

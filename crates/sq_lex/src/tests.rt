@@ -1,7 +1,7 @@
 use super::*;
 use sq_base::Fault;
 use std::alloc::Global;
-use std::test::{Fail, HostRuntime};
+use std::test::Fail;
 
 /// How many lexemes a text has, with 0, or the code and the place of its fault.
 fn outcome(alloc: Global, text: &str) -> (u16, usize) {
@@ -52,7 +52,7 @@ fn a_text_has_its_lexemes_or_its_first_fault(rt: HostRuntime) {
         ("WORDS(a b)", 110, 0),
         ("WORDS(title:x, \"b", 103, 15),
         ("WORDS(a \"b", 110, 0),
-        ("WORDS(a*b, c)", 112, 6),
+        ("WORDS(a*b, c)", 112, 7),
         ("WORDS(a*b, &)", 110, 0),
         ("size:1..2..3", 0, 1),
         ("size:..", 111, 5),
@@ -81,11 +81,12 @@ fn lexemes_have_their_places_and_long_texts_are_read(rt: HostRuntime) -> Result<
     let upper = Cut { from: 8, to: 12, quoted: false };
     let range = KKind::Restrict { name_to: 4, relation: Relation::Range, value: lower, upper: Some(upper) };
     let phrase = KKind::Free(Cut { from: 20, to: 21, quoted: true });
-    assert_eq!(rt; lexemes.as_slice(), &[
+    let want = [
         KLexeme { kind: range, from: 0, to: 12 },
         KLexeme { kind: KKind::Onear(8), from: 13, to: 18 },
         KLexeme { kind: phrase, from: 19, to: 22 },
-    ]);
+    ];
+    assert_eq!(rt; lexemes.as_slice(), want.as_slice());
     for (piece, times, end, want, at) in [
         (" ", 20479, "a", 0, 1),
         (" ", 20480, "a", 101, 20480),
