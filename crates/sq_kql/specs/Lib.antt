@@ -1,0 +1,5 @@
+pub mod Node
+pub mod Order
+pub mod Tree
+pub mod Grammar
+pub mod Law
