@@ -9,7 +9,9 @@ use Rattle.sq_lex.specs.declared.lexeme.KKind.TheVariants as kind
 use Rattle.sq_lex.specs.declared.lexeme.KLexeme.{KLexeme}
 use Rattle.sq_lex.specs.Bytes.{Text}
 use Rattle.sq_lex.specs.Outcome.{Outcome, ◌>>=◌, refused}
-use Rattle.sq_lex.specs.Shape.{is_single, IsFree, AreListed, nothing, single, list}
+use Rattle.sq_lex.specs.Kql.{lexemes_of}
+use Rattle.sq_lex.specs.Shape.{is_single, IsFree, AreListed, nothing, single, list, LexemesAreSound}
+use Rattle.sq_kql.specs.Law.{IsTreeOf}
 use Rattle.sq_kql.specs.declared.raw.Piece.{Piece}
 use Rattle.sq_kql.specs.declared.raw.RawSign.{RawSign}
 use Rattle.sq_kql.specs.declared.raw.RawSign.TheVariants as sign
@@ -35,7 +37,7 @@ use Rattle.sq_kql.specs.Tree.{placed, no_parts, closed, with_operand_by, with_op
 use Rattle.sq_kql.specs.Grammar.{IsSign, plus, minus, negation, IsProximity, unordered, ordered, Lists, no_items, more_items, first_at, SpellsBasic, free, all, restrict, words, group, SpellsChain, basic, near, Spells}
 use Rattle.sq_kql.proofs.LevelLemmas.{reading, reads, start, new_operand}
 use Rattle.sq_kql.proofs.ListLemmas.{split_last_is}
-use Rattle.sq_kql.proofs.UniqueLemmas.{filled_chain, reads_on, shifted, proximity_shift, sign_shift, sign_level, basic_reads, xrank_level}
+use Rattle.sq_kql.proofs.UniqueLemmas.{filled_chain, reads_on, shifted, proximity_shift, sign_shift, sign_level, basic_reads, xrank_level, spells_read}
 use Rattle.sq_kql.proofs.ReadLemmas.{RankPart, no_rank, some_rank, OrsPart, no_ors, some_ors, AndsPart, no_ands, some_ands, RunPart, no_run, some_run, sign_of, near_of, Pending, wanted, waits, near_plain, near_signed, had_plain, had_signed, level_of, Stretch, LevelOf, had_of, close_level, run_done, and_done, WholeOf, level_whole}
 
 -- ---- an operand comes
@@ -648,3 +650,9 @@ order_spells z xs listed h =
       depth = refl;
     } in
     spelled z xs (all_read z (length z) xs listed [] (standing state.Wanted 0) nothing_read g (begins (length z) xs h))
+
+-- what is read of the lexemes of a text is its tree
+pub tree_is : (z : Text) (xs : List KLexeme) (t : KRaw) → lexemes_of z ≡ Ok xs → LexemesAreSound → order (length z) xs ≡ Ok tt → t ≡ tree_of z xs → IsTreeOf z t
+tree_is z xs t read sound stands is =
+    let Of : KRaw → Type 0 = λ u. IsTreeOf z u in
+    subst Of (sym is) (record { lexemes = xs; read = read; ordered = stands; spelled = order_spells z xs (sound z xs read).0 stands; only = spells_read z xs })
