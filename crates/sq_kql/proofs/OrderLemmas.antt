@@ -619,7 +619,7 @@ all_read z len _ (list x y items rest is each end listed) xs now r g h =
     let b = words x y items l.pieces (is ∙ ap kind.Words (sym l.count)) l.lists end in
     let same : us ++ rest ≡ x ∷ (items ++ y ∷ rest) = ap (λ ys. x ∷ ys) (append_assoc items (y ∷ []) rest) in
     let w = all_read z len rest listed (xs ++ us) (standing state.Had now.levels) (reads z r us) (operand_step z us (tree.Words x.from l.pieces) b xs now r g)
-        (sym (list_goes len now x y items rest (length items) is each end) ∙ h) in
+    (sym (list_goes len now x y items rest (length items) is each end) ∙ h) in
     let Of : List KLexeme → Type 0 = λ ys. WholeOf z ys (whole (reads z (reads z r us) rest).level) in
     let By : Reading → Type 0 = λ q. WholeOf z (xs ++ x ∷ (items ++ y ∷ rest)) (whole q.level) in
     let read : reads z (reads z r us) rest ≡ reads z r (x ∷ (items ++ y ∷ rest)) = sym (reads_on z r (reads z r us) us rest refl) ∙ ap (reads z r) same in

@@ -113,12 +113,7 @@ fn shift_level(
 }
 
 /// Free text is a piece of a list that is open, or else an operand.
-fn with_free(
-    alloc: Global,
-    at: u32,
-    piece: Piece,
-    reading: Reading,
-) -> Result<Reading, AllocError>
+fn with_free(alloc: Global, at: u32, piece: Piece, reading: Reading) -> Result<Reading, AllocError>
     ensures { IfOk result (λ r. r ≡ spec.with_free reading.listing at piece reading) }
 {
     let Reading {
@@ -135,10 +130,12 @@ fn with_free(
                 listing: None,
             })
         }
-        Some(Listing {
-            at: word,
-            mut pieces,
-        }) => {
+        Some(
+            Listing {
+                at: word,
+                mut pieces,
+            },
+        ) => {
             pieces.push(piece)?;
             Ok(Reading {
                 level,

@@ -1,0 +1,21 @@
+-- Worked trees.
+use Rattle.std.proofs.Common.{◌≡◌, ℕ, [], ◌∷◌, refl}
+use Rattle.std.specs.Prelude.{codes, pos}
+use Rattle.sq_kql.specs.declared.raw.Piece.{Piece}
+use Rattle.sq_kql.specs.declared.raw.RawSign.TheVariants as sign
+use Rattle.sq_kql.specs.declared.raw.KRaw.{KRaw}
+use Rattle.sq_kql.specs.declared.raw.KRaw.TheVariants as tree
+use Rattle.sq_kql.specs.Node.{operand_of}
+use Rattle.sq_kql.specs.WellFormed.{bytes, nodes}
+
+a : Piece
+a = record { at = 0; text = codes "ab" }
+
+two_pieces : bytes (tree.Or 0 (tree.Free a ∷ tree.Xrank 5 (tree.Free a) (tree.All 9) (pos 2) ∷ [])) ≡ 4
+two_pieces = refl
+
+many_nodes : nodes (tree.Or 0 (tree.Free a ∷ tree.Xrank 5 (tree.Free a) (tree.All 9) (pos 2) ∷ [])) ≡ 5
+many_nodes = refl
+
+run_nodes : nodes (tree.Run 0 (operand_of sign.Plain 0 (tree.Free a) ∷ operand_of sign.Minus 3 (tree.Group 4 (tree.All 5)) ∷ [])) ≡ 4
+run_nodes = refl
