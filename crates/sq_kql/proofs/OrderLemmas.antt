@@ -1,9 +1,8 @@
 -- Lexemes that stand in order spell the tree that is read of them.
-use Rattle.std.proofs.Common.{◌≡◌, ℕ, zero, suc, ◌+◌, ◌-◌, ◌==◌, nat_lt, nat_le, if◌then◌else◌, ◌≤◌, ◌<◌, ℤ, Bool, true, false, List, [], ◌∷◌, ◌++◌, length, Option, Some, None, Result, Ok, Err, refl, sym, subst, ap, ap₂, ◌∙◌, append_assoc, length-append, ◌⊎◌, inl, inr, arith}
+use Rattle.std.proofs.Common.{◌≡◌, ℕ, suc, ◌+◌, ◌-◌, ◌==◌, if◌then◌else◌, ◌<◌, ℤ, Bool, true, false, List, [], ◌∷◌, ◌++◌, length, Option, Some, None, Ok, Err, refl, sym, subst, ap, ◌∙◌, append_assoc, length-append, ◌⊎◌, inl, inr, arith}
 use Rattle.std.proofs.lemmas.List.{append-nil}
 use Rattle.std.proofs.lemmas.Bool.Decides.{nat_tests}
 use Rattle.std.specs.List.{AllByRecursion}
-use Rattle.sq_base.specs.declared.faults.QueryFault.{QueryFault}
 use Rattle.sq_lex.specs.declared.lexeme.KKind.{KKind}
 use Rattle.sq_lex.specs.declared.lexeme.KKind.TheVariants as kind
 use Rattle.sq_lex.specs.declared.lexeme.KLexeme.{KLexeme}
@@ -33,12 +32,12 @@ use Rattle.sq_kql.specs.declared.level.Outer.{Outer}
 use Rattle.sq_kql.specs.declared.level.Reading.{Reading}
 use Rattle.sq_kql.specs.Node.{piece}
 use Rattle.sq_kql.specs.Order.{role_of, standing, sign_at, after_operand, step, ending, order_from, order}
-use Rattle.sq_kql.specs.Tree.{placed, no_parts, closed, with_operand_by, with_operand, with_sign, with_proximity, with_and, with_or, whole, with_xrank, group_node, with_close, shift, nothing_read, tree_of}
-use Rattle.sq_kql.specs.Grammar.{IsSign, plus, minus, negation, IsProximity, unordered, ordered, Lists, no_items, more_items, first_at, SpellsBasic, free, all, restrict, words, group, SpellsChain, basic, near, Spells}
+use Rattle.sq_kql.specs.Tree.{placed, no_parts, closed, with_operand, with_sign, with_proximity, with_and, with_or, whole, with_xrank, with_close, shift, nothing_read, tree_of}
+use Rattle.sq_kql.specs.Grammar.{IsSign, plus, minus, negation, IsProximity, unordered, ordered, Lists, no_items, more_items, first_at, SpellsBasic, free, all, restrict, words, group, basic, near, Spells}
 use Rattle.sq_kql.proofs.LevelLemmas.{reading, reads, start, new_operand}
 use Rattle.sq_kql.proofs.ListLemmas.{split_last_is}
 use Rattle.sq_kql.proofs.UniqueLemmas.{filled_chain, reads_on, shifted, proximity_shift, sign_shift, sign_level, basic_reads, xrank_level, spells_read}
-use Rattle.sq_kql.proofs.ReadLemmas.{RankPart, no_rank, some_rank, OrsPart, no_ors, some_ors, AndsPart, no_ands, some_ands, RunPart, no_run, some_run, sign_of, near_of, Pending, wanted, waits, near_plain, near_signed, had_plain, had_signed, level_of, Stretch, LevelOf, had_of, close_level, run_done, and_done, WholeOf, level_whole}
+use Rattle.sq_kql.proofs.ReadLemmas.{RankPart, no_rank, some_rank, OrsPart, no_ors, some_ors, AndsPart, no_ands, some_ands, no_run, some_run, sign_of, near_of, Pending, wanted, waits, near_plain, near_signed, had_plain, had_signed, level_of, Stretch, LevelOf, had_of, close_level, run_done, and_done, WholeOf, level_whole}
 
 -- ---- an operand comes
 
