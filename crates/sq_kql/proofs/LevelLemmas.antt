@@ -1,16 +1,13 @@
 -- What lexemes do to what is read so far.
-use Rattle.std.proofs.Common.{◌≡◌, ℕ, ◌+◌, ◌==◌, Bool, true, false, List, [], ◌∷◌, ◌++◌, length, fold, Option, Some, None, refl, sym, ap, ap₂, ◌∙◌}
+use Rattle.std.proofs.Common.{◌≡◌, ℕ, List, [], fold, Option, Some, None, refl, sym, ap, ap₂}
 use Rattle.sq_lex.specs.declared.lexeme.KLexeme.{KLexeme}
 use Rattle.sq_lex.specs.Bytes.{Text}
-use Rattle.sq_kql.specs.declared.raw.RawSign.{RawSign}
-use Rattle.sq_kql.specs.declared.raw.RawSign.TheVariants as sign
 use Rattle.sq_kql.specs.declared.raw.KRawOperand.{KRawOperand}
 use Rattle.sq_kql.specs.declared.raw.KRaw.{KRaw}
 use Rattle.sq_kql.specs.declared.level.Sign.{Sign}
 use Rattle.sq_kql.specs.declared.level.Placed.{Placed}
 use Rattle.sq_kql.specs.declared.level.Operand.{Operand}
 use Rattle.sq_kql.specs.declared.level.Parts.{Parts}
-use Rattle.sq_kql.specs.declared.level.Nearing.{Nearing}
 use Rattle.sq_kql.specs.declared.level.Ranking.{Ranking}
 use Rattle.sq_kql.specs.declared.level.Level.{Level}
 use Rattle.sq_kql.specs.declared.level.Outer.{Outer}

@@ -3,3 +3,4 @@ pub mod ListLemmas
 pub mod OrderLemmas
 pub mod ReadLemmas
 pub mod UniqueLemmas
+mod WellFormedExamples

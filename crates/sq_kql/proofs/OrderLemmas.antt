@@ -1,15 +1,16 @@
 -- Lexemes that stand in order spell the tree that is read of them.
-use Rattle.std.proofs.Common.{◌≡◌, ℕ, zero, suc, ◌+◌, ◌-◌, ◌==◌, nat_lt, nat_le, if◌then◌else◌, ◌≤◌, ◌<◌, ℤ, Bool, true, false, List, [], ◌∷◌, ◌++◌, length, Option, Some, None, Result, Ok, Err, refl, sym, subst, ap, ap₂, ◌∙◌, append_assoc, length-append, ◌⊎◌, inl, inr, arith}
+use Rattle.std.proofs.Common.{◌≡◌, ℕ, suc, ◌+◌, ◌-◌, ◌==◌, if◌then◌else◌, ◌<◌, ℤ, Bool, true, false, List, [], ◌∷◌, ◌++◌, length, Option, Some, None, Ok, Err, refl, sym, subst, ap, ◌∙◌, append_assoc, length-append, ◌⊎◌, inl, inr, arith}
 use Rattle.std.proofs.lemmas.List.{append-nil}
 use Rattle.std.proofs.lemmas.Bool.Decides.{nat_tests}
 use Rattle.std.specs.List.{AllByRecursion}
-use Rattle.sq_base.specs.declared.faults.QueryFault.{QueryFault}
 use Rattle.sq_lex.specs.declared.lexeme.KKind.{KKind}
 use Rattle.sq_lex.specs.declared.lexeme.KKind.TheVariants as kind
 use Rattle.sq_lex.specs.declared.lexeme.KLexeme.{KLexeme}
 use Rattle.sq_lex.specs.Bytes.{Text}
 use Rattle.sq_lex.specs.Outcome.{Outcome, ◌>>=◌, refused}
-use Rattle.sq_lex.specs.Shape.{is_single, IsFree, AreListed, nothing, single, list}
+use Rattle.sq_lex.specs.Kql.{lexemes_of}
+use Rattle.sq_lex.specs.Shape.{is_single, IsFree, AreListed, nothing, single, list, LexemesAreSound}
+use Rattle.sq_kql.specs.Law.{IsTreeOf}
 use Rattle.sq_kql.specs.declared.raw.Piece.{Piece}
 use Rattle.sq_kql.specs.declared.raw.RawSign.{RawSign}
 use Rattle.sq_kql.specs.declared.raw.RawSign.TheVariants as sign
@@ -31,12 +32,12 @@ use Rattle.sq_kql.specs.declared.level.Outer.{Outer}
 use Rattle.sq_kql.specs.declared.level.Reading.{Reading}
 use Rattle.sq_kql.specs.Node.{piece}
 use Rattle.sq_kql.specs.Order.{role_of, standing, sign_at, after_operand, step, ending, order_from, order}
-use Rattle.sq_kql.specs.Tree.{placed, no_parts, closed, with_operand_by, with_operand, with_sign, with_proximity, with_and, with_or, whole, with_xrank, group_node, with_close, shift, nothing_read, tree_of}
-use Rattle.sq_kql.specs.Grammar.{IsSign, plus, minus, negation, IsProximity, unordered, ordered, Lists, no_items, more_items, first_at, SpellsBasic, free, all, restrict, words, group, SpellsChain, basic, near, Spells}
+use Rattle.sq_kql.specs.Tree.{placed, no_parts, closed, with_operand, with_sign, with_proximity, with_and, with_or, whole, with_xrank, with_close, shift, nothing_read, tree_of}
+use Rattle.sq_kql.specs.Grammar.{IsSign, plus, minus, negation, IsProximity, unordered, ordered, Lists, no_items, more_items, first_at, SpellsBasic, free, all, restrict, words, group, basic, near, Spells}
 use Rattle.sq_kql.proofs.LevelLemmas.{reading, reads, start, new_operand}
 use Rattle.sq_kql.proofs.ListLemmas.{split_last_is}
-use Rattle.sq_kql.proofs.UniqueLemmas.{filled_chain, reads_on, shifted, proximity_shift, sign_shift, sign_level, basic_reads, xrank_level}
-use Rattle.sq_kql.proofs.ReadLemmas.{RankPart, no_rank, some_rank, OrsPart, no_ors, some_ors, AndsPart, no_ands, some_ands, RunPart, no_run, some_run, sign_of, near_of, Pending, wanted, waits, near_plain, near_signed, had_plain, had_signed, level_of, Stretch, LevelOf, had_of, close_level, run_done, and_done, WholeOf, level_whole}
+use Rattle.sq_kql.proofs.UniqueLemmas.{filled_chain, reads_on, shifted, proximity_shift, sign_shift, sign_level, basic_reads, xrank_level, spells_read}
+use Rattle.sq_kql.proofs.ReadLemmas.{RankPart, no_rank, some_rank, OrsPart, no_ors, some_ors, AndsPart, no_ands, some_ands, no_run, some_run, sign_of, near_of, Pending, wanted, waits, near_plain, near_signed, had_plain, had_signed, level_of, Stretch, LevelOf, had_of, close_level, run_done, and_done, WholeOf, level_whole}
 
 -- ---- an operand comes
 
@@ -617,7 +618,7 @@ all_read z len _ (list x y items rest is each end listed) xs now r g h =
     let b = words x y items l.pieces (is ∙ ap kind.Words (sym l.count)) l.lists end in
     let same : us ++ rest ≡ x ∷ (items ++ y ∷ rest) = ap (λ ys. x ∷ ys) (append_assoc items (y ∷ []) rest) in
     let w = all_read z len rest listed (xs ++ us) (standing state.Had now.levels) (reads z r us) (operand_step z us (tree.Words x.from l.pieces) b xs now r g)
-        (sym (list_goes len now x y items rest (length items) is each end) ∙ h) in
+    (sym (list_goes len now x y items rest (length items) is each end) ∙ h) in
     let Of : List KLexeme → Type 0 = λ ys. WholeOf z ys (whole (reads z (reads z r us) rest).level) in
     let By : Reading → Type 0 = λ q. WholeOf z (xs ++ x ∷ (items ++ y ∷ rest)) (whole q.level) in
     let read : reads z (reads z r us) rest ≡ reads z r (x ∷ (items ++ y ∷ rest)) = sym (reads_on z r (reads z r us) us rest refl) ∙ ap (reads z r) same in
@@ -648,3 +649,9 @@ order_spells z xs listed h =
       depth = refl;
     } in
     spelled z xs (all_read z (length z) xs listed [] (standing state.Wanted 0) nothing_read g (begins (length z) xs h))
+
+-- what is read of the lexemes of a text is its tree
+pub tree_is : (z : Text) (xs : List KLexeme) (t : KRaw) → lexemes_of z ≡ Ok xs → LexemesAreSound → order (length z) xs ≡ Ok tt → t ≡ tree_of z xs → IsTreeOf z t
+tree_is z xs t read sound stands is =
+    let Of : KRaw → Type 0 = λ u. IsTreeOf z u in
+    subst Of (sym is) (record { lexemes = xs; read = read; ordered = stands; spelled = order_spells z xs (sound z xs read).0 stands; only = spells_read z xs })

@@ -1,7 +1,5 @@
 -- What is read of lexemes that stand in order is spelled by them.
-use Rattle.std.proofs.Common.{◌≡◌, ℕ, suc, ◌+◌, ◌-◌, ◌==◌, ◌≤◌, ℤ, Bool, false, List, [], ◌∷◌, ◌++◌, length, Option, Some, None, Ok, refl, sym, subst, ap, ap₂, ◌∙◌, append_assoc, arith}
-use Rattle.std.proofs.lemmas.List.{append-nil}
-use Rattle.sq_lex.specs.declared.lexeme.KKind.{KKind}
+use Rattle.std.proofs.Common.{◌≡◌, ℕ, ◌==◌, ◌≤◌, ℤ, Bool, false, List, [], ◌∷◌, ◌++◌, length, Option, Some, None, refl, sym, subst, ap, ◌∙◌, append_assoc, arith}
 use Rattle.sq_lex.specs.declared.lexeme.KKind.TheVariants as kind
 use Rattle.sq_lex.specs.declared.lexeme.KLexeme.{KLexeme}
 use Rattle.sq_lex.specs.Bytes.{Text}
@@ -19,11 +17,10 @@ use Rattle.sq_kql.specs.declared.level.Parts.{Parts}
 use Rattle.sq_kql.specs.declared.level.Nearing.{Nearing}
 use Rattle.sq_kql.specs.declared.level.Ranking.{Ranking}
 use Rattle.sq_kql.specs.declared.level.Level.{Level}
-use Rattle.sq_kql.specs.declared.level.Outer.{Outer}
-use Rattle.sq_kql.specs.Tree.{placed, operand, operand_node, join_run, run_node, no_parts, with_part, and_node, or_node, closed, with_operand, with_sign, with_proximity, with_and, with_or, ranked_by, whole, with_xrank}
-use Rattle.sq_kql.specs.Grammar.{IsSign, plus, minus, negation, IsProximity, first_at, SpellsBasic, SpellsChain, basic, near, SpellsSigned, signed, SpellsOperand, plain, behind_sign, SpellsOperands, one_operand, more_operands, SpellsRun, lone, lone_signed, run, SpellsRuns, one_run, more_runs, SpellsAnd, lone_run, and, SpellsAnds, one_and, more_ands, SpellsOr, lone_and, or, Spells, unranked, xrank}
+use Rattle.sq_kql.specs.Tree.{placed, operand, operand_node, join_run, run_node, no_parts, with_part, and_node, or_node, closed, with_and, with_or, ranked_by, whole}
+use Rattle.sq_kql.specs.Grammar.{IsSign, IsProximity, first_at, SpellsChain, signed, SpellsOperand, plain, behind_sign, SpellsOperands, one_operand, more_operands, SpellsRun, lone, lone_signed, run, SpellsRuns, one_run, more_runs, SpellsAnd, lone_run, and, SpellsAnds, one_and, more_ands, SpellsOr, lone_and, or, Spells, unranked, xrank}
 use Rattle.sq_kql.proofs.LevelLemmas.{start, running, parts, closed_some}
-use Rattle.sq_kql.proofs.UniqueLemmas.{Filled, not_zero, filled_chain, filled_operands, filled_runs, filled_ands, filled, of_sign, plain_node, signed_node, many_node, run_end, part_one, part_more, some_more, and_one, and_many, or_one, or_many, and_level, or_level, xrank_level}
+use Rattle.sq_kql.proofs.UniqueLemmas.{Filled, not_zero, filled_operands, filled_runs, filled_ands, filled, of_sign, plain_node, signed_node, many_node, run_end, part_one, part_more, and_one, and_many, or_one, or_many, and_level, or_level}
 
 -- ---- what the parts of a level spell
 

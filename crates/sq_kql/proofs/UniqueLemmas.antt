@@ -1,5 +1,5 @@
 -- Lexemes that spell a tree are read as that tree.
-use Rattle.std.proofs.Common.{◌≡◌, ℕ, suc, ◌+◌, ◌==◌, ◌≤◌, ℤ, Bool, false, length, List, [], ◌∷◌, ◌++◌, Option, Some, None, refl, sym, ap, ap₂, ◌∙◌, append_assoc, length-append, arith}
+use Rattle.std.proofs.Common.{◌≡◌, ℕ, ◌==◌, ◌≤◌, ℤ, Bool, false, length, List, [], ◌∷◌, ◌++◌, Option, Some, None, refl, sym, ap, ap₂, ◌∙◌, append_assoc, length-append, arith}
 use Rattle.std.proofs.lemmas.Bool.Decides.{nat_tests}
 use Rattle.std.proofs.lemmas.List.{append-nil}
 use Rattle.std.proofs.lemmas.List.Sums.{fold-append}
@@ -20,12 +20,11 @@ use Rattle.sq_kql.specs.declared.level.Parts.{Parts}
 use Rattle.sq_kql.specs.declared.level.Ranking.{Ranking}
 use Rattle.sq_kql.specs.declared.level.Level.{Level}
 use Rattle.sq_kql.specs.declared.level.Outer.{Outer}
-use Rattle.sq_kql.specs.declared.level.Listing.{Listing}
 use Rattle.sq_kql.specs.declared.level.Reading.{Reading}
 use Rattle.sq_kql.specs.Node.{piece, operand_of}
-use Rattle.sq_kql.specs.Tree.{placed, operand, operand_node, run_of, run_node, no_parts, with_part, one_or, and_node, or_node, join_run, closed_by, closed, with_operand_by, with_operand, with_sign, with_proximity, end_run, with_and, end_and, with_or, ranked_by, end_or, whole, with_xrank, at_level, shift_kind, shift, with_close, split_last, nothing_read, tree_of}
+use Rattle.sq_kql.specs.Tree.{placed, operand, operand_node, run_node, no_parts, with_part, one_or, and_node, or_node, join_run, closed, with_operand_by, with_operand, with_sign, with_proximity, end_run, with_and, end_and, with_or, ranked_by, end_or, whole, with_xrank, at_level, shift_kind, shift, with_close, tree_of}
 use Rattle.sq_kql.specs.Grammar.{IsSign, plus, minus, negation, IsProximity, unordered, ordered, Lists, no_items, more_items, first_at, SpellsBasic, free, all, restrict, words, group, SpellsChain, basic, near, SpellsSigned, signed, SpellsOperand, plain, behind_sign, SpellsOperands, one_operand, more_operands, SpellsRun, lone, lone_signed, run, SpellsRuns, one_run, more_runs, SpellsAnd, lone_run, and, SpellsAnds, one_and, more_ands, SpellsOr, lone_and, or, Spells, unranked, xrank}
-use Rattle.sq_kql.proofs.LevelLemmas.{reading, reads, start, running, parts, join_last, join_sign, join_nearing, join_no_last, join_no_sign, closed_nearing, closed_last, closed_none, closed_some, new_operand}
+use Rattle.sq_kql.proofs.LevelLemmas.{reading, reads, start, running, parts, join_last, join_sign, closed_nearing, closed_last, closed_none, new_operand}
 use Rattle.sq_kql.proofs.ListLemmas.{split_last_is}
 
 -- ---- the first lexeme

@@ -3,3 +3,4 @@ pub mod Order
 pub mod Tree
 pub mod Grammar
 pub mod Law
+pub mod WellFormed

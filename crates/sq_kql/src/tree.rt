@@ -6,6 +6,7 @@ ghost use Rattle.std.specs.List.{AllByRecursion};
 ghost use Rattle.sq_lex.specs.Outcome.{Gives};
 ghost use Rattle.sq_lex.specs.Pieces.{IsPiece};
 ghost use Rattle.sq_lex.specs.Whole.{HasPieces, IsWhole, AreWhole};
+ghost use Rattle.sq_kql.specs.Law.{IsTreeOf};
 ghost use Rattle.sq_kql.specs.Node as node;
 ghost use Rattle.sq_kql.specs.Tree as spec;
 
@@ -16,7 +17,7 @@ use crate::level::{
 use crate::order::order;
 use crate::raw::{KRaw, Piece, RawSign};
 use sq_base::{Fault, List, Text};
-use sq_lex::{Cut, KKind, KLexeme, Relation, kql_lexemes};
+use sq_lex::{Cut, KKind, KLexeme, Relation, kql_lexemes, lexemes_are_sound};
 use sqlite_items::Boxed;
 use std::alloc::{AllocError, Global};
 
@@ -112,12 +113,7 @@ fn shift_level(
 }
 
 /// Free text is a piece of a list that is open, or else an operand.
-fn with_free(
-    alloc: Global,
-    at: u32,
-    piece: Piece,
-    reading: Reading,
-) -> Result<Reading, AllocError>
+fn with_free(alloc: Global, at: u32, piece: Piece, reading: Reading) -> Result<Reading, AllocError>
     ensures { IfOk result (λ r. r ≡ spec.with_free reading.listing at piece reading) }
 {
     let Reading {
@@ -134,10 +130,12 @@ fn with_free(
                 listing: None,
             })
         }
-        Some(Listing {
-            at: word,
-            mut pieces,
-        }) => {
+        Some(
+            Listing {
+                at: word,
+                mut pieces,
+            },
+        ) => {
             pieces.push(piece)?;
             Ok(Reading {
                 level,
@@ -322,12 +320,14 @@ fn tree_of(alloc: Global, text: &str, mut lexemes: &[KLexeme]) -> Result<KRaw, A
 }
 
 /// The tree of a text, or its first fault: of its lexemes, and then of their order.
-#[tactic(auto, unfolding(crate::specs::Tree::read_of))]
+#[tactic(auto, using(crate::proofs::OrderLemmas::tree_is), unfolding(crate::specs::Tree::read_of))]
 pub fn read_kql(alloc: Global, text: &str) -> Result<KRaw, Fault>
-    ensures { Gives (λ tree. tree) result (spec.read_of text.now) }
+    ensures value { Gives (λ tree. tree) result (spec.read_of text.now) }
+    ensures tree { IfOk result (IsTreeOf text.now) }
 {
     let lexemes = kql_lexemes(alloc, text)?;
     order(text.len() as u32, lexemes.as_slice())?;
     let tree = tree_of(alloc, text, lexemes.as_slice())?;
+    lexemes_are_sound();
     Ok(tree)
 }

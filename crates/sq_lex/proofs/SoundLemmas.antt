@@ -1,12 +1,11 @@
 -- The lexemes of a text are whole and keep their limits.
-use Rattle.std.proofs.Common.{◌≡◌, ℕ, zero, suc, ◌+◌, ◌-◌, ◌≤◌, ◌==◌, nat_lt, nat_le, ◌&&◌, ◌||◌, not, ℤ, Bool, true, false, if◌then◌else◌, List, [], ◌∷◌, ◌++◌, length, Option, Some, None, Result, Ok, Err, IfOk, IfSome, refl, sym, subst, ap, ap₂, ◌∙◌, append_assoc, arith}
+use Rattle.std.proofs.Common.{◌≡◌, ℕ, zero, suc, ◌+◌, ◌≤◌, ◌==◌, nat_lt, nat_le, ◌&&◌, ◌||◌, Bool, true, false, if◌then◌else◌, List, [], ◌∷◌, ◌++◌, length, Option, Some, None, Ok, Err, IfOk, IfSome, refl, sym, subst, ap, ◌∙◌, append_assoc, arith}
 use Rattle.std.proofs.lemmas.Bool.Decides.{nat_tests}
 use Rattle.std.specs.Prelude.{is_some, slice_index, slice_range}
 use Rattle.std.specs.Char.{is_ascii_alphabetic}
-use Rattle.std.specs.List.{AllByRecursion, list_any}
+use Rattle.std.specs.List.{AllByRecursion}
 use Rattle.sq_lex.specs.declared.class.Class.TheVariants as class
-use Rattle.sq_lex.specs.declared.codes.TheConstants.{BAD_PARAMETER, BAD_WORDS, MISSING_VALUE, MAX_TEXT, TOO_LONG}
-use Rattle.sq_base.specs.declared.faults.QueryFault.{QueryFault}
+use Rattle.sq_lex.specs.declared.codes.TheConstants.{BAD_PARAMETER, BAD_WORDS, MISSING_VALUE, MAX_TEXT}
 use Rattle.sq_lex.specs.declared.lexeme.Cut.{Cut}
 use Rattle.sq_lex.specs.declared.lexeme.Relation.{Relation}
 use Rattle.sq_lex.specs.declared.lexeme.Relation.TheVariants as relation
@@ -19,7 +18,7 @@ use Rattle.sq_lex.specs.declared.word.Word.{Word}
 use Rattle.sq_lex.specs.declared.word.Word.TheVariants as word
 use Rattle.sq_lex.specs.Bytes.{Text, past, digits_value, is_blank}
 use Rattle.sq_lex.specs.Outcome.{Outcome, refused, ◌>>=◌, ◌>>◌, or_refused}
-use Rattle.sq_lex.specs.Kql.{Taken, lexeme, one, blank, cut, past_cut, judged, free, quoted, phrase, sign, ends_idle, sign_lexemes, signs, number, near_digits, near_list, near_kind, near, constant_boost, parameters, xrank, relation_at, head_at, head, value, dots_from, bounds, word_value, range, word_bounds, phrase_bounds, one_bound, is_has, all_bounds, judged_upper, past_upper, restriction, cut_at, items, is_restriction, is_false, is_tokenless, has_bad_item, free_items, word_list, words, word_of, plain, word_by, whole_word, taken, lexemes_from, lexemes_of}
+use Rattle.sq_lex.specs.Kql.{Taken, lexeme, one, blank, cut, past_cut, judged, free, quoted, phrase, ends_idle, sign_lexemes, signs, number, near_digits, near_list, near_kind, near, constant_boost, parameters, xrank, relation_at, head_at, head, value, dots_from, word_value, range, word_bounds, phrase_bounds, one_bound, is_has, all_bounds, judged_upper, past_upper, restriction, items, is_restriction, is_false, is_tokenless, has_bad_item, free_items, word_list, words, word_of, plain, word_by, whole_word, taken, lexemes_from, lexemes_of}
 use Rattle.sq_lex.specs.Shape.{is_single, IsFree, AreListed, nothing, single, list, is_range, IsStarless, IsSound, IsSoundLexeme}
 
 -- ---- outcomes

@@ -1,5 +1,5 @@
 -- How lexemes follow one another, and what each is.
-use Rattle.std.specs.Prelude.{◌≡◌, ℕ, ◌≤◌, ℤ, Bool, true, false, List, [], ◌∷◌, ◌++◌, length, Option, None, is_some, Ok, IfSome}
+use Rattle.std.specs.Prelude.{◌≡◌, ◌≤◌, Bool, true, false, List, [], ◌∷◌, ◌++◌, length, is_some, Ok, IfSome}
 use Rattle.std.specs.List.{AllByRecursion}
 use Rattle.sq_lex.specs.declared.lexeme.Cut.{Cut}
 use Rattle.sq_lex.specs.declared.lexeme.Relation.{Relation}

@@ -4,5 +4,4 @@ ghost use Rattle.sq_lex.specs.Shape.{LexemesAreSound};
 /// Each WORDS list is whole, and each lexeme keeps its limits.
 pub fn lexemes_are_sound()
     ensures { LexemesAreSound }
-{
-}
+{}

@@ -77,14 +77,43 @@ fn a_text_has_its_lexemes_or_its_first_fault(rt: HostRuntime) {
 fn lexemes_have_their_places_and_long_texts_are_read(rt: HostRuntime) -> Result<(), Fail> {
     let alloc = rt.alloc();
     let lexemes = kql_lexemes(alloc, "size:1..2..3 ONEAR \"a\"")?;
-    let lower = Cut { from: 5, to: 6, quoted: false };
-    let upper = Cut { from: 8, to: 12, quoted: false };
-    let range = KKind::Restrict { name_to: 4, relation: Relation::Range, value: lower, upper: Some(upper) };
-    let phrase = KKind::Free(Cut { from: 20, to: 21, quoted: true });
+    let lower = Cut {
+        from: 5,
+        to: 6,
+        quoted: false,
+    };
+    let upper = Cut {
+        from: 8,
+        to: 12,
+        quoted: false,
+    };
+    let range = KKind::Restrict {
+        name_to: 4,
+        relation: Relation::Range,
+        value: lower,
+        upper: Some(upper),
+    };
+    let phrase = KKind::Free(Cut {
+        from: 20,
+        to: 21,
+        quoted: true,
+    });
     let want = [
-        KLexeme { kind: range, from: 0, to: 12 },
-        KLexeme { kind: KKind::Onear(8), from: 13, to: 18 },
-        KLexeme { kind: phrase, from: 19, to: 22 },
+        KLexeme {
+            kind: range,
+            from: 0,
+            to: 12,
+        },
+        KLexeme {
+            kind: KKind::Onear(8),
+            from: 13,
+            to: 18,
+        },
+        KLexeme {
+            kind: phrase,
+            from: 19,
+            to: 22,
+        },
     ];
     assert_eq!(rt; lexemes.as_slice(), want.as_slice());
     for (piece, times, end, want, at) in [
