@@ -3,7 +3,7 @@ use Rattle.std.proofs.Common.{◌≡◌, ℕ, List, [], ◌∷◌, Option, Some,
 use Rattle.sq_tokens.specs.Token.{Token, text_tokens}
 use Rattle.sq_tokens.specs.Pattern.{first_bad_star, without_good_star, text_phrase}
 use Rattle.sq_model.specs.declared.leaf.Leaf.{Leaf}
-use Rattle.sq_cli.specs.PlainText.{leaf_of, leaf_from}
+use Rattle.sq_cli.specs.PlainQuery.{leaf_of, leaf_from}
 
 module _ (word : List ℕ) where
   some_from : (star : Option ℕ) (tokens : List Token) → ((at : ℕ) → star ≡ Some at → ⊥) → ((star ≡ None) × (tokens ≡ []) → ⊥) →

@@ -2,4 +2,3 @@ mod FilterLemmas
 mod HitLemmas
 mod HitsLemmas
 mod LeafLemmas
-mod WordLemmas

@@ -2,6 +2,6 @@ pub mod Answer
 pub mod Answers
 pub mod Command
 pub mod Output
-pub mod PlainText
+pub mod PlainQuery
 pub mod ReadsPlain
 pub mod Verdict

@@ -12,7 +12,7 @@ use Rattle.sq_model.specs.Access.{view, admits, seen}
 use Rattle.sq_model.specs.Kql.{holds, boost}
 use Rattle.sq_cli.specs.declared.hit.Hit.{Hit}
 use Rattle.sq_cli.specs.Answer.{hits, hit_of}
-use Rattle.sq_cli.specs.PlainText.{plain_query}
+use Rattle.sq_cli.specs.PlainQuery.{plain_query}
 
 pub data Verdict : Type 0 where
   Unknown : Verdict

@@ -1,103 +1,25 @@
-//! Queries of plain words.
-ghost use Rattle.std.specs.Prelude.{◌≡◌, ◌<◌, ◌≤◌, ◌^◌, ◌-◌, [], ◌∷◌, ◌++◌, length, map, position, IfOk, OnOk, IfSome, MatchOption, Ok, option_to_list};
-ghost use Rattle.std.specs.List.{list_any};
-ghost use Rattle.std.specs.Str.{IsUtf8};
-ghost use Rattle.sq_cli.specs.PlainText as plain;
-ghost use Rattle.sq_cli.specs.ReadsPlain.{ReadsPlain};
+//! Queries of free text.
+ghost use Rattle.std.specs.Prelude.{◌≡◌, ◌<◌, ◌≤◌, [], ◌∷◌, ◌++◌, length, map, filter_map, IfOk, OnOk, MatchOption, Ok, Some, None, option_to_list, option_map};
+ghost use Rattle.sq_cli.specs.PlainQuery as plain;
+ghost use Rattle.sq_cli.specs.ReadsPlain.{ReadsPlain, GivesTree, items_of};
 
 use sq_base::{Fault, List, QueryFault, Text};
+use sq_kql::{KRaw, KRawOperand, RawSign, read_kql};
 use sq_model::{KOperand, KTree, Leaf, Sign};
 use sq_tokens::{PatternFault, pattern_of};
 use std::alloc::{AllocError, Global};
 
-/// The most bytes of a query text.
-const TEXT_LIMIT: usize = 20_480;
-
-#[tactic(auto, unfolding(crate::specs::PlainText::is_white))]
-fn is_white(byte: u8) -> bool
-    ensures { result ≡ plain.is_white byte }
+/// The leaf of a piece, if it is a pattern. A piece of 2^32 bytes, which no query has, is refused as
+/// want of memory.
+fn leaf_of(alloc: Global, text: &str) -> Result<Option<Leaf>, AllocError>
+    ensures { IfOk result (λ leaf. leaf ≡ plain.leaf_of text.now) }
 {
-    byte == b' ' || byte == b'\t' || byte == b'\n' || byte == b'\r'
-}
-
-#[tactic(auto, unfolding(crate::specs::PlainText::is_mark))]
-fn is_mark(byte: u8) -> bool
-    ensures { result ≡ plain.is_mark byte }
-{
-    byte == b'"'
-        || byte == b'('
-        || byte == b')'
-        || byte == b'+'
-        || byte == b'-'
-        || byte == b'*'
-        || byte == b':'
-        || byte == b'='
-        || byte == b'<'
-        || byte == b'>'
-}
-
-fn has_mark(text: &str) -> bool
-    ensures { result ≡ list_any plain.is_mark text.now }
-{
-    text.as_bytes().iter().any(|byte| is_mark(*byte))
-}
-
-#[tactic(auto, unfolding(crate::specs::PlainText::is_operator))]
-fn is_operator(word: &str) -> bool
-    ensures { result ≡ plain.is_operator word.now }
-{
-    word == "AND"
-        || word == "OR"
-        || word == "NOT"
-        || word == "NEAR"
-        || word == "ONEAR"
-        || word == "XRANK"
-        || word == "WORDS"
-}
-
-/// Where the first word ends, if white space stands behind it.
-fn first_end(text: &str) -> Option<usize>
-    ensures { result ≡ position plain.is_white text.now }
-{
-    text.as_bytes().iter().position(|byte| is_white(*byte))
-}
-
-/// The first word and what stands behind its white space. `None` where the text is one word.
-fn split_word(text: &str) -> Option<(&str, &str)>
-    ensures words { MatchOption result (plain.words_of text.now ≡ text.now ∷ [])
-        (λ parts. plain.words_of text.now ≡ parts.0.now ∷ plain.words_of parts.1.now) }
-    ensures shorter { IfSome result (λ parts. (length parts.0.now ≤ length text.now) × (length parts.1.now < length text.now)) }
-    ensures utf8 { IfSome result (λ parts. IsUtf8 parts.1.now) }
-{
-    match first_end(text) {
-        Some(end) => Some((&text[..end], &text[end + 1..])),
-        None => None,
+    if text.len() > u32::MAX as usize {
+        return Err(AllocError);
     }
-}
-
-fn has_operator(text: &str) -> bool
-    ensures { result ≡ list_any plain.is_operator (plain.words_of text.now) }
-{
-    let mut rest = text;
-    'words: loop {
-        let Some((word, behind)) = split_word(rest) else {
-            return is_operator(rest);
-        };
-        if is_operator(word) {
-            return true;
-        }
-        rest = behind;
-    }
-}
-
-/// The leaf of a word, if it has a token.
-fn leaf_of(alloc: Global, word: &str) -> Result<Option<Leaf>, AllocError>
-    requires { length word.now < 2 ^ 32 }
-    ensures { IfOk result (λ leaf. leaf ≡ plain.leaf_of word.now) }
-{
-    match pattern_of(alloc, word) {
+    match pattern_of(alloc, text) {
         Ok(pattern) => {
-            let text = Text::from_str(alloc, word)?;
+            let text = Text::from_str(alloc, text)?;
             Ok(Some(Leaf { text, pattern }))
         }
         Err(PatternFault::NoToken) => Ok(None),
@@ -106,30 +28,100 @@ fn leaf_of(alloc: Global, word: &str) -> Result<Option<Leaf>, AllocError>
     }
 }
 
-/// Adds the leaf of a word, if it has a token.
-fn add_leaf(alloc: Global, leaves: &mut Vec<Leaf>, word: &str) -> Result<(), AllocError>
-    requires { length word.now < 2 ^ 32 }
-    ensures { OnOk result (leaves.new.items ≡ leaves.old.items ++ option_to_list (plain.leaf_of word.now)) }
+/// Adds the leaf of a piece, if it is one.
+fn add_leaf(alloc: Global, leaves: &mut Vec<Leaf>, text: &str) -> Result<(), AllocError>
+    ensures { OnOk result (leaves.new.items ≡ leaves.old.items ++ option_to_list (plain.leaf_of text.now)) }
 {
-    if let Some(leaf) = leaf_of(alloc, word)? {
+    if let Some(leaf) = leaf_of(alloc, text)? {
         leaves.push(leaf)?;
     }
     Ok(())
 }
 
-fn leaves_of(alloc: Global, text: &str) -> Result<Vec<Leaf>, AllocError>
-    requires { length text.now < 2 ^ 32 }
-    ensures { IfOk result (λ leaves. leaves.items ≡ plain.leaves_of text.now) }
+/// The text of free text.
+fn free_text(tree: &KRaw) -> Option<&Text>
+    ensures { MatchOption result ((plain.node tree.now).text ≡ None) (λ text. (plain.node tree.now).text ≡ Some text.now) }
+{
+    match tree {
+        KRaw::Free(piece) => Some(&piece.text),
+        KRaw::All(_) => None,
+        KRaw::Words { .. } => None,
+        KRaw::Group { .. } => None,
+        KRaw::Restrict { .. } => None,
+        KRaw::Near { .. } => None,
+        KRaw::Run { .. } => None,
+        KRaw::And { .. } => None,
+        KRaw::Or { .. } => None,
+        KRaw::Xrank { .. } => None,
+    }
+}
+
+/// The text of a plain operand that is free text.
+fn operand_text(operand: &KRawOperand) -> Option<&Text>
+    ensures { MatchOption result (plain.operand_text operand.now ≡ None) (λ text. plain.operand_text operand.now ≡ Some text.now) }
+{
+    match operand.sign {
+        RawSign::Plain => free_text(&operand.tree),
+        RawSign::Plus => None,
+        RawSign::Minus => None,
+    }
+}
+
+/// The leaves of a run, if all its operands are plain free text.
+fn run_leaves(alloc: Global, operands: &[KRawOperand]) -> Result<Option<Vec<Leaf>>, AllocError>
+    ensures { IfOk result (λ leaves. items_of leaves
+        ≡ option_map (filter_map plain.leaf_of) (plain.all_of (map plain.operand_text operands.now))) }
 {
     let mut leaves = Vec::new(alloc);
-    let mut rest = text;
-    'words: loop {
-        let Some((word, behind)) = split_word(rest) else {
-            add_leaf(alloc, &mut leaves, rest)?;
-            return Ok(leaves);
-        };
-        add_leaf(alloc, &mut leaves, word)?;
-        rest = behind;
+    for operand in operands {
+        match operand_text(operand) {
+            Some(text) => add_leaf(alloc, &mut leaves, text.as_str())?,
+            None => return Ok(None),
+        }
+    }
+    Ok(Some(leaves))
+}
+
+/// The leaves of a tree that is free text or a run of plain free text.
+fn leaves_of(alloc: Global, tree: &KRaw) -> Result<Option<Vec<Leaf>>, AllocError>
+    ensures { IfOk result (λ leaves. items_of leaves ≡ option_map (filter_map plain.leaf_of) (plain.node tree.now).texts) }
+{
+    match tree {
+        KRaw::Free(piece) => {
+            let mut leaves = Vec::new(alloc);
+            add_leaf(alloc, &mut leaves, piece.text.as_str())?;
+            Ok(Some(leaves))
+        }
+        KRaw::Run { operands, .. } => {
+            let leaves = run_leaves(alloc, operands.as_slice())?;
+            Ok(leaves)
+        }
+        KRaw::All(_) => Ok(None),
+        KRaw::Words { .. } => Ok(None),
+        KRaw::Group { .. } => Ok(None),
+        KRaw::Restrict { .. } => Ok(None),
+        KRaw::Near { .. } => Ok(None),
+        KRaw::And { .. } => Ok(None),
+        KRaw::Or { .. } => Ok(None),
+        KRaw::Xrank { .. } => Ok(None),
+    }
+}
+
+/// The place of a tree's first lexeme.
+fn place_of(tree: &KRaw) -> u32
+    ensures { result ≡ (plain.node tree.now).at }
+{
+    match tree {
+        KRaw::Free(piece) => piece.at,
+        KRaw::All(at) => *at,
+        KRaw::Words { at, .. } => *at,
+        KRaw::Group { at, .. } => *at,
+        KRaw::Restrict { at, .. } => *at,
+        KRaw::Near { at, .. } => *at,
+        KRaw::Run { at, .. } => *at,
+        KRaw::And { at, .. } => *at,
+        KRaw::Or { at, .. } => *at,
+        KRaw::Xrank { at, .. } => *at,
     }
 }
 
@@ -153,20 +145,10 @@ fn operands_of(alloc: Global, leaves: Vec<Leaf>) -> Result<List<KOperand>, Alloc
     Ok(List::from_vec(operands))
 }
 
-/// Reads a query of plain words.
-pub fn read_plain(alloc: Global, text: &str) -> Result<KTree, Fault>
-    ensures { ReadsPlain text.now result }
+/// The tree of leaves.
+fn tree_of(alloc: Global, mut leaves: Vec<Leaf>) -> Result<KTree, Fault>
+    ensures { GivesTree (plain.tree_of leaves.items) result }
 {
-    if text.len() > TEXT_LIMIT {
-        return Err(Fault::Query(QueryFault {
-            code: 101,
-            at: TEXT_LIMIT as u32,
-        }));
-    }
-    if has_mark(text) || has_operator(text) {
-        return Err(Fault::Query(QueryFault { code: 199, at: 0 }));
-    }
-    let mut leaves = leaves_of(alloc, text)?;
     if leaves.len() > 1 {
         let operands = operands_of(alloc, leaves)?;
         return Ok(KTree::Run(operands));
@@ -174,5 +156,22 @@ pub fn read_plain(alloc: Global, text: &str) -> Result<KTree, Fault>
     match leaves.pop() {
         Some(leaf) => Ok(KTree::Free(leaf)),
         None => Err(Fault::Query(QueryFault { code: 102, at: 0 })),
+    }
+}
+
+/// Reads a query of free text.
+pub fn read_plain(alloc: Global, text: &str) -> Result<KTree, Fault>
+    ensures { ReadsPlain text.now result }
+{
+    let tree = match read_kql(alloc, text) {
+        Ok(tree) => tree,
+        Err(fault) => return Err(fault),
+    };
+    match leaves_of(alloc, &tree)? {
+        Some(leaves) => tree_of(alloc, leaves),
+        None => Err(Fault::Query(QueryFault {
+            code: 199,
+            at: place_of(&tree),
+        })),
     }
 }

@@ -65,7 +65,7 @@ fn source_of(alloc: Global, old: &str, new: &str, fails: bool) -> Result<MemSour
 #[test]
 fn words_have_their_status_and_text(rt: HostRuntime) -> Result<(), Fail> {
     let alloc = rt.alloc();
-    let table: [(&[&str], (&str, &str), u8, &str); 22] = [
+    let table: [(&[&str], (&str, &str), u8, &str); 28] = [
         (
             &["ask", "Ann", "kql", "debt"],
             ("", ""),
@@ -83,6 +83,18 @@ fn words_have_their_status_and_text(rt: HostRuntime) -> Result<(), Fail> {
             ("", ""),
             0,
             "total 1\nitem 2 score 20\n",
+        ),
+        (
+            &["ask", "Bob", "kql", "\"notes acquisition\""],
+            ("", ""),
+            0,
+            "total 0\n",
+        ),
+        (
+            &["ask", "Ann", "kql", "\"old bank\" ann*"],
+            ("", ""),
+            0,
+            "total 1\nitem 1 score 10\n",
         ),
         (
             &["ask", "Ann", "kql", "STRASSE"],
@@ -114,6 +126,12 @@ fn words_have_their_status_and_text(rt: HostRuntime) -> Result<(), Fail> {
             "total 1\nitem 1 score 10\n",
         ),
         (
+            &["ask", "Ann", "kql", "- debt"],
+            ("", ""),
+            0,
+            "total 1\nitem 2 score 20\n",
+        ),
+        (
             &["ask", "Ann", "kql", "debt AND notes"],
             ("", ""),
             1,
@@ -126,17 +144,24 @@ fn words_have_their_status_and_text(rt: HostRuntime) -> Result<(), Fail> {
             "total 0\n",
         ),
         (
-            &["ask", "Ann", "kql", "title:debt"],
+            &["ask", "Ann", "kql", " debt title:notes"],
             ("", ""),
             1,
-            "fault 199 at 0\n",
+            "fault 199 at 1\n",
         ),
         (
-            &["ask", "Zed", "kql", "debt AND notes"],
+            &["ask", "Ann", "kql", "debt AND"],
             ("", ""),
             1,
-            "fault 511 at 0\n",
+            "fault 104 at 8\n",
         ),
+        (
+            &["ask", "Ann", "kql", "debt XRANK(rb=0.4) x"],
+            ("", ""),
+            1,
+            "fault 109 at 11\n",
+        ),
+        (&["ask", "Zed", "kql", "("], ("", ""), 1, "fault 511 at 0\n"),
         (
             &["ask", "Ann", "kql", "debt"],
             ("SQCORPUS 1", "SQCORPUS 2"),
@@ -171,6 +196,7 @@ fn words_have_their_status_and_text(rt: HostRuntime) -> Result<(), Fail> {
         (&["ask", "Ann"], ("", ""), 2, ""),
         (&["ask", "Ann", "fql", "debt"], ("", ""), 2, ""),
         (&["check", "all"], ("", ""), 2, ""),
+        (&["--help"], ("", ""), 2, ""),
     ];
     for (words, (old, new), status, sent) in table {
         let mut corpus = source_of(alloc, old, new, false)?;

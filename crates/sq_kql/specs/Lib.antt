@@ -1,0 +1,6 @@
+pub mod Node
+pub mod Order
+pub mod Tree
+pub mod Grammar
+pub mod Law
+pub mod WellFormed

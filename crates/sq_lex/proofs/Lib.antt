@@ -1,0 +1,6 @@
+pub mod DigitsLemmas
+pub mod ListLemmas
+pub mod LoopLemmas
+pub mod PieceLemmas
+pub mod WholeLemmas
+pub mod SoundLemmas

@@ -1,0 +1,5 @@
+use Rattle.sq_lex.proofs.SoundLemmas.{lexemes_sound}
+use Rattle.sq_lex.proofs.laws.lexemes_are_sound.Goals as goal
+
+pub returns : goal.returns
+returns c = lexemes_sound
