@@ -7,7 +7,7 @@ use Rattle.jiff_core.specs.Calendar.{days_from_civil, day_count, days_of_years, 
 use Rattle.jiff_core.specs.Time.{time_seconds}
 use Rattle.jiff_core.proofs.SignedLemmas.{signed_arith}
 
-first_day : days_from_civil (pos 1970) 1 1 ≡ pos 0
+pub first_day : days_from_civil (pos 1970) 1 1 ≡ pos 0
 unfolding days_from_civil day_count days_of_years days_of_months
 first_day = refl
 

@@ -1,11 +1,11 @@
 -- Laws of the definitions, which callers may use.
-use Rattle.std.specs.Prelude.{◌≡◌, ℕ, List, Some, Ok, slice_get, position, ℤ, FitsSigned}
+use Rattle.std.specs.Prelude.{◌≡◌, ℕ, List, Some, Ok, slice_get, position, ℤ, FitsSigned, IfSome}
 use Rattle.std.specs.Fmt.{signed_decimal}
 use Rattle.std.specs.Int.{w64}
 use Rattle.sq_schema.specs.declared.property.Property.{Property}
 use Rattle.sq_schema.specs.Dates.{interval_of}
 use Rattle.sq_schema.specs.Intervals.{single}
-use Rattle.sq_schema.specs.Moments.{IsMoment, IsMomentText}
+use Rattle.sq_schema.specs.Moments.{IsMoment, IsMomentText, IsInYears}
 use Rattle.sq_schema.specs.Properties.{IsSchema, has_name}
 use Rattle.sq_schema.specs.Values.{number_of}
 
@@ -20,3 +20,7 @@ NumbersReadBack = (n : ℤ) → FitsSigned w64 n → number_of (signed_decimal n
 -- the text of a moment is a date with a time, and its interval is that moment alone
 abbrev pub MomentsReadBack : Type 0
 MomentsReadBack = (moment : ℤ) (text : List ℕ) → IsMoment moment → IsMomentText moment text → interval_of text ≡ Some (single moment)
+
+-- the interval of a date text lies in the years 0001 to 9999
+abbrev pub DatesLieInYears : Type 0
+DatesLieInYears = (text : List ℕ) → IfSome (interval_of text) IsInYears

@@ -15,3 +15,8 @@ pub fn moments_read_back()
 pub fn numbers_read_back()
     ensures { spec.NumbersReadBack }
 {}
+
+/// The interval of a date text lies in the years 0001 to 9999.
+pub fn dates_lie_in_years()
+    ensures { spec.DatesLieInYears }
+{}
