@@ -9,7 +9,8 @@ ghost use Rattle.sq_cli.specs.Answers.{Answers};
 use crate::hit::Hit;
 use crate::plain::read_plain;
 use sq_base::{Fault, QueryFault, Text};
-use sq_model::{Caller, Corpus, KTree, admits, kql_boost_slow, kql_holds_slow};
+use sq_model::{Caller, Corpus, KTree, admits};
+use sq_slow::{kql_boost_slow, kql_holds_slow};
 use std::alloc::{AllocError, Global};
 
 /// Why a request isn't answered.

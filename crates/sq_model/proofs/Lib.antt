@@ -1,8 +1,5 @@
 pub mod FqlEquations
 mod FqlExamples
 pub mod KqlEquations
-mod LookedLemmas
-mod SeenLemmas
-mod Steps
 mod ValidLemmas
 mod WorkedExamples

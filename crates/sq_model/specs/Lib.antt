@@ -11,6 +11,5 @@ pub mod Looked
 pub mod Passages
 pub mod Places
 pub mod Spans
-pub mod TextValues
 pub mod Triples
 pub mod Valid

@@ -4,37 +4,17 @@
 mod access;
 mod corpus;
 mod fql;
-mod fql_boost;
-mod fql_holds;
-mod fql_passages;
-mod fql_slow;
-mod fql_spans;
 mod judged;
 mod kql;
-mod kql_boost;
-mod kql_holds;
-mod kql_slow;
-mod kql_spans;
 mod laws;
 mod leaf;
-mod near;
-mod places;
-mod restrictions;
-mod runs;
-mod seen;
-mod sums;
-#[cfg(test)]
-mod tests;
-mod text_value;
 mod triple;
 
 pub use access::admits;
 pub use corpus::{Caller, Content, Corpus, Item, Value};
 pub use fql::{FTree, Look, SpanTree};
-pub use fql_slow::{fql_boost_slow, fql_holds_slow};
 pub use judged::Judged;
 pub use kql::{KOperand, KTree, Relation, Sign};
-pub use kql_slow::{kql_boost_slow, kql_holds_slow};
 pub use laws::valid_texts_are_short;
 pub use leaf::Leaf;
 pub use triple::Triple;

@@ -1,5 +1,0 @@
-use Rattle.std.proofs.Common.{◌≡◌, ◌++◌, drop}
-use Rattle.sq_model.proofs.near.add_all.Given as goal
-
-abbrev pub invariant-loop-triple : goal.invariant-loop-triple
-invariant-loop-triple l = l.all ++ drop l.triple-index l.more ≡ l.initial.all ++ l.more

@@ -1,6 +1,0 @@
-use Rattle.std.proofs.Common.{◌≡◌, ◌++◌, drop}
-use Rattle.sq_model.specs.Lists.{joined}
-use Rattle.sq_model.proofs.near.join_lists.Given as goal
-
-abbrev pub invariant-loop-list : goal.invariant-loop-list
-invariant-loop-list l = l.all ++ joined (drop l.list-index l.lists) ≡ joined l.lists

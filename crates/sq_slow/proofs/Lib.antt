@@ -1,0 +1,3 @@
+mod LookedLemmas
+mod SeenLemmas
+mod Steps

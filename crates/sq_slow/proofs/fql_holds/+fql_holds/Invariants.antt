@@ -1,0 +1,10 @@
+use Rattle.std.proofs.Common.{◌≡◌, drop}
+use Rattle.std.specs.List.{list_any, list_all}
+use Rattle.sq_model.specs.Fql.{holds}
+use Rattle.sq_slow.proofs.fql_holds.+fql_holds.Given as goal
+
+abbrev pub invariant-all_hold-loop-part : goal.invariant-all_hold-loop-part
+invariant-all_hold-loop-part l = list_all (holds l.schema l.item.values) (drop l.part-index l.parts) ≡ list_all (holds l.schema l.item.values) l.parts
+
+abbrev pub invariant-some_hold-loop-part : goal.invariant-some_hold-loop-part
+invariant-some_hold-loop-part l = list_any (holds l.schema l.item.values) (drop l.part-index l.parts) ≡ list_any (holds l.schema l.item.values) l.parts

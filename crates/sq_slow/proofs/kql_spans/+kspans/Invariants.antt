@@ -1,0 +1,6 @@
+use Rattle.std.proofs.Common.{◌≡◌, ◌++◌, map, drop}
+use Rattle.sq_model.specs.Kql.{triples}
+use Rattle.sq_slow.proofs.kql_spans.+kspans.Given as goal
+
+abbrev pub invariant-triples_each-loop-part : goal.invariant-triples_each-loop-part
+invariant-triples_each-loop-part l = l.lists ++ map (triples l.passage) (drop l.part-index l.parts) ≡ map (triples l.passage) l.parts
