@@ -4,3 +4,5 @@ pub mod LoopLemmas
 pub mod PieceLemmas
 pub mod WholeLemmas
 pub mod SoundLemmas
+pub mod FqlLoopLemmas
+pub mod FqlWholeLemmas
