@@ -12,3 +12,4 @@ mod raw;
 mod read;
 
 pub use raw::{FPiece, FRaw, Mode, Op};
+pub use read::read_fql;
