@@ -13,3 +13,6 @@ mod read;
 
 pub use raw::{FPiece, FRaw, Mode, Op};
 pub use read::read_fql;
+
+#[cfg(test)]
+mod tests;
