@@ -7,3 +7,5 @@ pub mod PieceLemmas
 pub mod WholeLemmas
 pub mod SoundLemmas
 pub mod PlaceLemmas
+pub mod FqlLoopLemmas
+pub mod FqlWholeLemmas

@@ -1,0 +1,4 @@
+pub mod Number
+pub mod Operators
+pub mod Parameters
+pub mod Read
