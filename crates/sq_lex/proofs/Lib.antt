@@ -6,3 +6,4 @@ pub mod WholeLemmas
 pub mod SoundLemmas
 pub mod FqlLoopLemmas
 pub mod FqlWholeLemmas
+pub mod FqlSoundLemmas
