@@ -7,3 +7,4 @@ pub mod SoundLemmas
 pub mod FqlLoopLemmas
 pub mod FqlWholeLemmas
 pub mod FqlSoundLemmas
+mod FqlExamples
