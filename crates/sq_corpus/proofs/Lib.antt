@@ -1,3 +1,4 @@
+mod WorkedExamples
 pub mod CleanLemmas
 pub mod ContentLemmas
 pub mod EscapeLemmas
@@ -8,4 +9,4 @@ pub mod PieceLemmas
 pub mod SchemaLemmas
 pub mod SoundLemmas
 pub mod ValidLemmas
-mod WorkedExamples
+pub mod WriteLemmas

@@ -5,3 +5,5 @@ pub mod Lines
 pub mod Pieces
 pub mod Reads
 pub mod Words
+pub mod Writes
+pub mod Written

@@ -12,9 +12,11 @@ mod reader;
 mod rows;
 mod values;
 mod words;
+mod write;
 
 pub use fault::CorpusFault;
 pub use read::read_corpus;
+pub use write::write_corpus;
 
 #[cfg(test)]
 mod tests;
