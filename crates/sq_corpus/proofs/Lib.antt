@@ -6,6 +6,7 @@ pub mod FineLemmas
 pub mod KeptLemmas
 pub mod LineLemmas
 pub mod PieceLemmas
+pub mod PlainLemmas
 pub mod SchemaLemmas
 pub mod SoundLemmas
 pub mod ValidLemmas

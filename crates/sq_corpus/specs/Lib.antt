@@ -1,6 +1,7 @@
 pub mod CorpusText
 pub mod Escapes
 pub mod Keeps
+pub mod Laws
 pub mod Lines
 pub mod Pieces
 pub mod Reads

@@ -5,6 +5,7 @@ mod before;
 mod counts;
 mod escapes;
 mod fault;
+mod laws;
 mod names;
 mod pieces;
 mod read;
@@ -15,6 +16,7 @@ mod words;
 mod write;
 
 pub use fault::CorpusFault;
+pub use laws::written_texts_read_back;
 pub use read::read_corpus;
 pub use write::write_corpus;
 
