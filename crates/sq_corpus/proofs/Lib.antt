@@ -8,6 +8,7 @@ pub mod ItemLemmas
 pub mod KeptLemmas
 pub mod LeadLemmas
 pub mod LineLemmas
+pub mod OrderLemmas
 pub mod PieceLemmas
 pub mod PlainLemmas
 pub mod ReadBackLemmas

@@ -12,3 +12,8 @@ pub fn written_texts_read_back()
     numbers_read_back();
     moments_read_back();
 }
+
+/// Of an item, only the values of different properties change places among one another.
+pub fn values_are_kept()
+    ensures { spec.ValuesAreKept }
+{}

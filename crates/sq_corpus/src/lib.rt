@@ -16,7 +16,7 @@ mod words;
 mod write;
 
 pub use fault::CorpusFault;
-pub use laws::written_texts_read_back;
+pub use laws::{values_are_kept, written_texts_read_back};
 pub use read::read_corpus;
 pub use write::write_corpus;
 
