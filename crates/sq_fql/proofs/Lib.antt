@@ -1,3 +1,4 @@
 pub mod EscapeLemmas
 pub mod ListLemmas
 mod ReadExamples
+pub mod FormLemmas
