@@ -314,3 +314,103 @@ module _ (z : Text) (utf8 : IsUtf8 z) where
       let Light = λ (u : FRaw). weight u + size rest ≤ width x + size xs in
       let Good = λ (l : List FLexeme). AllGood z l in
       (subst Light same.0 (omega (arith, heavy, few, fits, behind, left)), subst HasForm same.0 form, subst Good same.1 g.good)
+
+  -- what was read of a first lexeme that the others stand behind
+  abbrev IsRead : FLexeme → List FLexeme → FRaw → List FLexeme → Type 0
+  IsRead x xs t rest = (weight t + size rest ≤ width x + size xs) × HasForm t × AllGood z rest
+
+  abbrev AreGoodReaders : Option Reader → Type 0
+  AreGoodReaders inner = IfSome inner (IsGoodReader z)
+
+  applied_read : (inner : Option Reader) (op : Option Operator) (x : FLexeme) (xs : List FLexeme) (t : FRaw) (rest : List FLexeme) → AreGoodReaders inner → AllGood z xs → 1 ≤ width x
+      → applied inner z op x xs ≡ Ok (t, rest) → IsRead x xs t rest
+  applied_read None None x xs t rest reads good some is = absurd (cc)
+  applied_read (Some inner) None x xs t rest reads good some is = absurd (cc)
+  applied_read None (Some op) x xs t rest reads good some is = absurd (cc)
+  applied_read (Some inner) (Some op) x xs t rest reads good some is =
+      let h = bound (entries inner (suc (length (behind xs))) z op nothing (behind xs)) (λ l. completed op l.0 l.1 >>= applied_op x l) (t, rest) is in
+      apply_of inner op x xs h.x t rest reads good some h.first h.then
+
+  scoped_read : (inner : Option Reader) (x : FLexeme) (xs : List FLexeme) (t : FRaw) (rest : List FLexeme) → AreGoodReaders inner → AllGood z xs → IsName (word_text z x)
+      → scoped inner z x xs ≡ Ok (t, rest) → IsRead x xs t rest
+  scoped_read None x xs t rest reads good name is = absurd (cc)
+  scoped_read (Some inner) x xs t rest reads good name is =
+      let h = bound (inner (behind xs)) (scoped_tree z x) (t, rest) is in
+      let f = reads (behind xs) h.x.0 h.x.1 (good_behind z xs good) h.first in
+      let same = pairs (tree.Scope x.from (word_text z x) h.x.0) t h.x.1 rest h.then in
+      let form = form_scope x.from (word_text z x) h.x.0 name f.form in
+      let heavy = weight_scope x.from (word_text z x) h.x.0 in
+      let fits = f.fits in
+      let behind = size_behind xs in
+      let left = ap size same.1 in
+      let Light = λ (u : FRaw). weight u + size rest ≤ width x + size xs in
+      let Good = λ (l : List FLexeme). AllGood z l in
+      (subst Light same.0 (omega (arith, heavy, fits, behind, left)), subst HasForm same.0 form, subst Good same.1 f.good)
+
+  leaf_read : (x : FLexeme) (xs : List FLexeme) (t : FRaw) (rest : List FLexeme) → AllGood z xs → Good z x → leaf_before z x xs ≡ Ok (t, rest) → IsRead x xs t rest
+  leaf_read x xs t rest good one is =
+      let h = bound (leaf z x) (paired xs) (t, rest) is in
+      let l = leaf_leaf z x h.x utf8 one h.first in
+      let same = pairs h.x t xs rest h.then in
+      let light = l.weight in
+      let left = ap size same.1 in
+      let Light = λ (u : FRaw). weight u + size rest ≤ width x + size xs in
+      let Good = λ (l : List FLexeme). AllGood z l in
+      (subst Light same.0 (omega (arith, light, left)), subst HasForm same.0 l.form, subst Good same.1 good)
+
+  scope_by : (letter : Bool) (inner : Option Reader) (x : FLexeme) (xs : List FLexeme) (t : FRaw) (rest : List FLexeme) → is_ascii_alphabetic (get_or z x.from 0) ≡ letter → AreGoodReaders inner
+      → AllGood z xs → Good z x → x.kind ≡ kind.Word → cond letter (scoped inner z x xs) (leaf_before z x xs) ≡ Ok (t, rest) → IsRead x xs t rest
+  scope_by true inner x xs t rest letter reads good one word is = scoped_read inner x xs t rest reads good (scope_name z x one word letter) is
+  scope_by false inner x xs t rest letter reads good one word is = leaf_read x xs t rest good one is
+
+  begun_read : (r : Role) (inner : Option Reader) (x : FLexeme) (xs : List FLexeme) (t : FRaw) (rest : List FLexeme) → AreGoodReaders inner → AllGood z xs → Good z x
+      → (r ≢ role.Literal → x.kind ≡ kind.Word) → begun inner z r x xs ≡ Ok (t, rest) → IsRead x xs t rest
+  begun_read role.Operator inner x xs t rest reads good one word is =
+      let some = one.whole.some in applied_read inner (operator_of (word_text z x)) x xs t rest reads good (omega arith) is
+  begun_read role.Scope inner x xs t rest reads good one word is = scope_by (is_ascii_alphabetic (get_or z x.from 0)) inner x xs t rest refl reads good one (word (λ same. cc)) is
+  begun_read role.Parameter inner x xs t rest reads good one word is = leaf_read x xs t rest good one is
+  begun_read role.Literal inner x xs t rest reads good one word is = leaf_read x xs t rest good one is
+
+  over_formed : (inner : Option Reader) → AreGoodReaders inner → IsGoodReader z (expression_over inner z)
+  unfolding expression_over
+  over_formed inner reads xs t rest good is =
+      let h = bound (wanted z xs) (λ x. begun inner z (role_of x (behind xs)) x (behind xs)) (t, rest) is in
+      let b = begins z xs h.x good h.first in
+      let r = begun_read (role_of h.x (behind xs)) inner h.x (behind xs) t rest reads (good_behind z xs good) b.good (role_word h.x.kind (behind xs)) h.then in
+      let width = b.size in
+      let fits = r.0 in
+      record { form = r.1; fits = omega (arith, fits, width); good = r.2 }
+
+  deeper_formed : (levels : ℕ) → AreGoodReaders (deeper levels z)
+  unfolding deeper
+  deeper_formed zero = tt
+  deeper_formed (suc levels) = over_formed (deeper levels z) (deeper_formed levels)
+
+  alone_same : (t u : FRaw) (xs : List FLexeme) → alone t xs ≡ Ok u → t ≡ u
+  alone_same t u [] is = cc
+  alone_same t u (x ∷ xs) is = absurd (cc)
+
+  size_from : (at : ℕ) (xs : List FLexeme) → AreFrom z at xs → at ≤ length z → at + size xs ≤ length z
+  size_from at [] are within = omega arith
+  size_from at (x ∷ xs) are within =
+      let after = are.0 in
+      let l = are.2 in
+      let some = l.some in
+      let inside = l.within in
+      let h = size_from x.to xs are.3 inside in omega (arith, after, h)
+
+  all_good : (at : ℕ) (xs : List FLexeme) → AreFrom z at xs → AreWhole z xs → AllGood z xs
+  all_good at [] are whole = tt
+  all_good at (x ∷ xs) are whole = (record { lexeme = are.2; whole = whole.0 }, all_good x.to xs are.3 whole.1)
+
+  -- a tree that was read of the lexemes of a text is well formed
+  pub read_formed : (xs : List FLexeme) (t : FRaw) → length z ≤ MAX_TEXT → AreFrom z 0 xs → AreWhole z xs → whole_of z xs ≡ Ok t → IsWellFormed t
+  unfolding whole_of
+  read_formed [] t short are whole is = absurd (cc)
+  read_formed (x ∷ xs) t short are whole is =
+      let h = bound (expression MAX_LEVELS z (x ∷ xs)) (λ (r : FRaw × List FLexeme). alone r.0 r.1) t is in
+      let f = over_formed (deeper MAX_LEVELS z) (deeper_formed MAX_LEVELS) (x ∷ xs) h.x.0 h.x.1 (all_good 0 (x ∷ xs) are whole) h.first in
+      let same = alone_same h.x.0 t h.x.1 h.then in
+      let fits = f.fits in
+      let room = size_from 0 (x ∷ xs) are (omega arith) in
+      subst IsWellFormed same (record { form = f.form; few_bytes = omega (arith, fits, room, short); few_xranks = omega (arith, fits, room, short) })
