@@ -1,3 +1,4 @@
+pub mod CanonEquations
 pub mod EscapeLemmas
 pub mod ListLemmas
 mod ReadExamples

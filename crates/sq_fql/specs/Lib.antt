@@ -1,3 +1,4 @@
+pub mod Canon
 pub mod Number
 pub mod Operators
 pub mod Parameters

@@ -8,11 +8,15 @@ mod look;
 mod number;
 mod operator;
 mod parameter;
+mod print;
 mod raw;
 mod read;
 
+pub use print::print_fql;
 pub use raw::{FPiece, FRaw, Mode, Op};
 pub use read::read_fql;
 
+#[cfg(test)]
+mod print_tests;
 #[cfg(test)]
 mod tests;
