@@ -1,8 +1,7 @@
 -- A content is read back from the field that it is written as.
-use Rattle.std.proofs.Common.{◌≡◌, ℕ, ◌+◌, ◌/◌, ◌%◌, ◌<◌, ◌≤◌, lit<, lit≤, Bool, true, false, cond, ◌&&◌, nat_lt, List, [], ◌∷◌, ◌++◌, length, refl, ap, sym, subst, ◌∙◌, arith, Option, Some, None, Result, Ok, Err, ℤ, pos, neg_ℤ, ◌≤ℤ◌, int_le, FitsSigned, unsigned_abs}
+use Rattle.std.proofs.Common.{◌≡◌, ℕ, ◌+◌, ◌/◌, ◌%◌, ◌<◌, ◌≤◌, lit<, lit≤, Bool, true, false, cond, nat_lt, List, [], ◌∷◌, length, refl, ap, sym, subst, ◌∙◌, arith, Option, Some, Ok, Err, ℤ, pos, neg_ℤ, ◌≤ℤ◌, int_le, unsigned_abs}
 use Rattle.std.specs.Prelude.{codes}
 use Rattle.std.proofs.lemmas.Int.{ints}
-use Rattle.std.specs.Int.{w64}
 use Rattle.std.specs.Fmt.{signed_decimal}
 use Rattle.sq_schema.specs.declared.interval.Interval.{Interval}
 use Rattle.sq_schema.specs.declared.property.Kind.{Kind}
@@ -16,7 +15,6 @@ use Rattle.sq_model.specs.declared.corpus.Content.{Content}
 use Rattle.sq_model.specs.declared.corpus.Content.TheVariants.{Words, Number, Moment, Flag}
 use Rattle.sq_model.specs.Valid.{is_text, is_from_to, has_kind}
 use Rattle.sq_base.specs.Xml.{is_xml_text}
-use Rattle.sq_corpus.specs.Escapes.{text_of}
 use Rattle.sq_corpus.specs.Lines.{words_of, integer_of, moment_of, flag_of, content_of}
 use Rattle.sq_corpus.specs.Written.{IsContentText, spelled}
 use Rattle.sq_corpus.proofs.CleanLemmas.{left_true, right_true}

@@ -1,5 +1,5 @@
 -- Where the lines of the items lead.
-use Rattle.std.proofs.Common.{◌≡◌, ◌⊎◌, inl, inr, ℕ, suc, ◌+◌, ◌<◌, ◌≤◌, lit≤, nat_le, nat_lt, Bool, true, false, cond, not, ◌&&◌, ◌||◌, ◌==◌, List, [], ◌∷◌, ◌++◌, append_assoc, append-nil, map, filter, drop, length, length-append, refl, ap, sym, subst, ◌∙◌, arith, position, slice_get, Option, Some, None, option_map, option_to_list, Result, Ok, Err, ℤ, pos, neg_ℤ, ◌≤ℤ◌, int_le, unsigned_abs}
+use Rattle.std.proofs.Common.{◌≡◌, ◌⊎◌, inl, inr, ℕ, suc, ◌+◌, ◌<◌, ◌≤◌, nat_le, nat_lt, Bool, true, false, cond, not, ◌&&◌, ◌||◌, ◌==◌, List, [], ◌∷◌, ◌++◌, append_assoc, append-nil, map, filter, length, length-append, refl, ap, sym, subst, ◌∙◌, arith, position, slice_get, Option, Some, None, option_map, option_to_list, Result, Ok, Err, ℤ, pos, neg_ℤ, int_le, unsigned_abs}
 use Rattle.std.specs.Prelude.{codes}
 use Rattle.std.specs.Fmt.{signed_decimal}
 use Rattle.std.specs.List.{list_all, AllByRecursion}
@@ -11,32 +11,28 @@ use Rattle.sq_base.specs.Xml.{is_xml_text}
 use Rattle.sq_schema.specs.declared.property.Property.{Property}
 use Rattle.sq_schema.specs.Laws.{NamesFindRows, NumbersReadBack, MomentsReadBack}
 use Rattle.sq_schema.specs.Properties.{IsSchema, is_sound, has_name}
-use Rattle.sq_schema.specs.Names as schema_names
-use Rattle.sq_schema.specs.Values.{number_of}
 use Rattle.sq_model.specs.declared.corpus.Caller.{Caller}
 use Rattle.sq_model.specs.declared.corpus.Content.{Content}
 use Rattle.sq_model.specs.declared.corpus.Item.{Item}
 use Rattle.sq_model.specs.declared.corpus.Value.{Value}
-use Rattle.sq_model.specs.Valid.{is_name, is_text, is_claim_list, is_from_to, is_value, is_content_of, has_kind, count_of, has_few, is_item, are_rising}
+use Rattle.sq_model.specs.Valid.{is_name, is_claim_list, is_from_to, is_value, is_content_of, has_kind, count_of, has_few, is_item, are_rising}
 use Rattle.sq_corpus.specs.declared.before.Before.{Before}
 use Rattle.sq_corpus.specs.declared.before.Stage.{Stage}
 use Rattle.sq_corpus.specs.declared.before.Stage.TheVariants.{BeforeAllow, BeforeDeny, InValues}
 use Rattle.sq_corpus.specs.declared.words.LineKind.TheVariants.{ItemHead}
 use Rattle.sq_corpus.specs.CorpusText.{may_end}
 use Rattle.sq_corpus.specs.Escapes.{text_of}
-use Rattle.sq_corpus.specs.Lines.{may_stand, number_from_to, item_number, rank_of, is_above, item_of, items_of, with_url, with_item, list_fault, allowing, denying, if_faultless, allowed, denied, with_allow, with_deny, content_of, values_of, value_of, holding, held, with_content, with_value_of, with_value, with_known, with_fields}
+use Rattle.sq_corpus.specs.Lines.{may_stand, number_from_to, item_number, rank_of, is_above, item_of, with_url, with_item, list_fault, allowing, denying, if_faultless, with_allow, with_deny, content_of, value_of, holding, with_content, with_value_of, with_value, with_known, with_fields}
 use Rattle.sq_corpus.specs.Laws.{in_rows}
 use Rattle.sq_corpus.specs.Words.{line_kind}
-use Rattle.sq_corpus.specs.Written.{line, Each, is_at, values_from, spelled, IsContentText, IsValueText, AreRowTexts, item_line, IsItemText}
+use Rattle.sq_corpus.specs.Written.{line, Each, is_at, values_from, spelled, IsValueText, AreRowTexts, item_line, IsItemText}
 use Rattle.sq_corpus.proofs.CleanLemmas.{both_true, left_true, right_true}
-use Rattle.sq_corpus.proofs.SoundLemmas.{by_le, by_not_le, count_more, number_of_item}
+use Rattle.sq_corpus.proofs.SoundLemmas.{by_le, count_more, number_of_item}
 use Rattle.sq_corpus.proofs.ValidLemmas.{Parts, parts}
-use Rattle.sq_corpus.proofs.WriteLemmas.{dropped}
-use Rattle.sq_corpus.proofs.PlainLemmas.{Plain}
-use Rattle.sq_corpus.proofs.SpelledLemmas.{name_plain, row_name_plain, spelled_plain, spelled_back}
+use Rattle.sq_corpus.proofs.SpelledLemmas.{row_name_plain, spelled_plain, spelled_back}
 use Rattle.sq_corpus.proofs.BackLemmas.{Back, content_back, number_back}
 use Rattle.sq_corpus.proofs.LeadLemmas.{Leads, leads_nil, leads_then, leads_along, leads_so, leads_line, word_plain, state}
-use Rattle.sq_corpus.proofs.RowLemmas.{not_le, good_row, sound_name, claims_plain, three_pass}
+use Rattle.sq_corpus.proofs.RowLemmas.{not_le, good_row, sound_name, claims_plain}
 
 -- an item that is being read, with these values so far
 abbrev pub with_values : Item → List Value → Item

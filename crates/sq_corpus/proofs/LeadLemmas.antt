@@ -1,37 +1,21 @@
 -- Where the lines of a written text lead, one after another.
-use Rattle.std.proofs.Common.{◌≡◌, ℕ, ◌+◌, ◌<◌, ◌≤◌, lit<, lit≤, nat_le, nat_lt, Bool, true, false, cond, not, ◌&&◌, ◌||◌, List, [], ◌∷◌, ◌++◌, append_assoc, append-nil, map, take, length, length-append, refl, ap, sym, subst, ◌∙◌, arith, slice_get, Option, Some, None, Result, Ok, Err}
-use Rattle.std.specs.Prelude.{codes, option_and_then}
-use Rattle.std.specs.List.{list_all, list_any, flat_map, AllByRecursion}
-use Rattle.std.specs.Str.{bytes_eq, is_utf8, IsUtf8}
-use Rattle.std.proofs.Math.Seq.{take-append_seam, get_or-append_seam}
-use Rattle.std.proofs.lemmas.Option.{slice_get-get_or}
+use Rattle.std.proofs.Common.{◌≡◌, ℕ, ◌+◌, ◌<◌, ◌≤◌, nat_le, nat_lt, Bool, true, false, cond, ◌&&◌, List, [], ◌∷◌, ◌++◌, append_assoc, refl, ap, sym, subst, ◌∙◌, arith, Option, Ok, Err}
+use Rattle.std.specs.List.{AllByRecursion}
 use Rattle.std.proofs.lemmas.Bool.Decides.{nat_tests}
-use Rattle.std.proofs.lemmas.List.Concat.{flat_map-cons}
 use Rattle.sq_base.specs.Xml.{is_xml_text}
-use Rattle.sq_schema.specs.declared.fault.SchemaFault.{SchemaFault}
-use Rattle.sq_schema.specs.declared.property.Kind.{Kind}
-use Rattle.sq_schema.specs.declared.property.Kind.TheVariants.{Text, Integer, DateTime, YesNo}
 use Rattle.sq_schema.specs.declared.property.Property.{Property}
-use Rattle.sq_schema.specs.Names as schema_names
-use Rattle.sq_schema.specs.Properties.{IsSchema, row_fault, fault_behind, is_sound, has_name, is_text, is_integer}
 use Rattle.sq_model.specs.declared.corpus.Caller.{Caller}
 use Rattle.sq_model.specs.declared.corpus.Item.{Item}
-use Rattle.sq_model.specs.Valid.{is_name, is_caller, are_different}
 use Rattle.sq_corpus.specs.declared.before.Before.{Before}
 use Rattle.sq_corpus.specs.declared.before.Stage.{Stage}
-use Rattle.sq_corpus.specs.declared.before.Stage.TheVariants.{Start, InProperties, InCallers, BeforeAllow, BeforeDeny, InValues}
-use Rattle.sq_corpus.specs.declared.words.LineKind.{LineKind}
-use Rattle.sq_corpus.specs.declared.words.LineKind.TheVariants.{Heading, PropertyRow, CallerRow, ItemHead, AllowList, DenyList, ValueRow}
-use Rattle.sq_corpus.specs.CorpusText.{corpus_from, nothing_before, may_end}
-use Rattle.sq_corpus.specs.Lines.{may_stand, with_row, with_property, with_caller, is_named, with_known, with_fields, with_text, at_most_607, with_line}
+use Rattle.sq_corpus.specs.CorpusText.{corpus_from}
+use Rattle.sq_corpus.specs.Lines.{with_fields, with_text, at_most_607, with_line}
 use Rattle.sq_corpus.specs.Pieces.{fields_of, lines_of}
-use Rattle.sq_corpus.specs.Words.{line_kind, kind_of, flags_of, flags}
-use Rattle.sq_corpus.specs.Written.{line, property_line, kind_word, flags_word, Each, IsCallerText}
-use Rattle.sq_corpus.proofs.CleanLemmas.{both_true, left_true, right_true}
+use Rattle.sq_corpus.specs.Written.{line}
+use Rattle.sq_corpus.proofs.CleanLemmas.{left_true, right_true}
 use Rattle.sq_corpus.proofs.LineLemmas.{after_line, from_cons, begins_pieces}
-use Rattle.sq_corpus.proofs.SoundLemmas.{name_of}
-use Rattle.sq_corpus.proofs.PlainLemmas.{in_line, in_field, Spelt, Plain, spelt_nil, body, line_body, fields_of_body, spelt_body, spelt_utf8, line_xml_text, line_ends, pieces_front}
-use Rattle.sq_corpus.proofs.SpelledLemmas.{cons_visible, name_plain, row_name_plain}
+use Rattle.sq_corpus.proofs.PlainLemmas.{in_line, in_field, Plain, spelt_nil, body, line_body, fields_of_body, spelt_body, spelt_utf8, line_xml_text, line_ends, pieces_front}
+use Rattle.sq_corpus.proofs.SpelledLemmas.{cons_visible}
 
 -- The text takes what stands before it to this.
 pub record Leads (before : Before) (text : List ℕ) (after : Before) : Type 0 where

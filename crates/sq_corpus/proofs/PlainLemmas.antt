@@ -1,16 +1,15 @@
 -- Fields that stand in a line as they are, and the line of such fields.
-use Rattle.std.proofs.Common.{◌≡◌, ℕ, ◌+◌, ◌<◌, ◌≤◌, lit<, Bool, true, false, cond, not, ◌&&◌, ◌||◌, ◌==◌, nat_le, List, [], ◌∷◌, ◌++◌, append_assoc, append-nil, refl, ap, sym, subst, ◌∙◌, arith, chars, encode_utf8, encode_utf8_all, IsUtf8}
+use Rattle.std.proofs.Common.{◌≡◌, ℕ, ◌<◌, lit<, Bool, true, cond, ◌&&◌, ◌==◌, List, [], ◌∷◌, ◌++◌, append_assoc, append-nil, refl, ap, sym, subst, ◌∙◌, arith, chars, encode_utf8, encode_utf8_all}
 use lib.Utf8.{scalar, low_scalar}
-use Rattle.std.specs.List.{list_all, flat_map, AllByRecursion}
+use Rattle.std.specs.List.{list_all, AllByRecursion}
 use Rattle.std.specs.Str.{is_utf8, all_scalars}
-use Rattle.std.specs.Char.{is_control}
 use Rattle.std.proofs.lemmas.Str.{encode_ascii, encodes-append, chars-encodes, is_utf8-from_IsUtf8}
 use Rattle.std.proofs.lemmas.Bool.Decides.{nat_tests}
 use Rattle.std.proofs.lemmas.List.Folds.{list_all-append}
 use Rattle.sq_base.specs.Xml.{is_xml_char, is_xml_text}
-use Rattle.sq_corpus.specs.Pieces.{onto_first, pieces, fields_of, lines_of}
+use Rattle.sq_corpus.specs.Pieces.{onto_first, pieces, fields_of}
 use Rattle.sq_corpus.specs.Written.{line, line_end}
-use Rattle.sq_corpus.proofs.CleanLemmas.{both_true, left_true, right_true, apart, apart_from, apart_in, pieces_behind}
+use Rattle.sq_corpus.proofs.CleanLemmas.{both_true, left_true, right_true, apart, apart_in, pieces_behind}
 use Rattle.sq_corpus.proofs.LineLemmas.{Begins}
 
 -- an XML character that ends no line, and one that ends no field either

@@ -1,18 +1,14 @@
 -- The text that is written of a corpus is read back.
-use Rattle.std.proofs.Common.{◌≡◌, ℕ, ◌+◌, ◌≤◌, Bool, true, cond, List, [], ◌∷◌, ◌++◌, append-nil, map, length, refl, ap, sym, ◌∙◌, arith, None, Result, Ok, Err}
+use Rattle.std.proofs.Common.{◌≡◌, ℕ, ◌+◌, true, cond, List, [], ◌++◌, append-nil, ap, sym, ◌∙◌, arith, None, Ok}
 use Rattle.std.specs.Prelude.{codes}
 use Rattle.std.specs.List.{flat_map}
 use Rattle.sq_schema.specs.Laws.{NamesFindRows, NumbersReadBack, MomentsReadBack}
-use Rattle.sq_schema.specs.Properties.{IsSchema}
-use Rattle.sq_model.specs.declared.corpus.Corpus.{Corpus}
-use Rattle.sq_model.specs.Valid.{IsValid}
 use Rattle.sq_corpus.specs.declared.before.Before.{Before}
 use Rattle.sq_corpus.specs.declared.before.Stage.TheVariants.{InProperties}
 use Rattle.sq_corpus.specs.CorpusText.{nothing_before, may_end, corpus_after, faulty, at_end, corpus_from, corpus_of}
-use Rattle.sq_corpus.specs.Laws.{in_rows, by_property, WrittenTextsReadBack}
-use Rattle.sq_corpus.specs.Lines.{items_of}
+use Rattle.sq_corpus.specs.Laws.{WrittenTextsReadBack}
 use Rattle.sq_corpus.specs.Pieces.{lines_of}
-use Rattle.sq_corpus.specs.Written.{line, property_line, IsWritten}
+use Rattle.sq_corpus.specs.Written.{line, property_line}
 use Rattle.sq_corpus.proofs.LeadLemmas.{Leads, leads_then, leads_along, state}
 use Rattle.sq_corpus.proofs.RowLemmas.{heading_leads, rows_lead, opens_properties, callers_lead}
 use Rattle.sq_corpus.proofs.ItemLemmas.{items_lead}

@@ -1,5 +1,5 @@
 -- Where the lines of the properties and of the callers lead.
-use Rattle.std.proofs.Common.{◌≡◌, ℕ, ◌+◌, ◌<◌, ◌≤◌, nat_le, Bool, true, false, cond, not, ◌&&◌, ◌||◌, List, [], ◌∷◌, ◌++◌, append_assoc, append-nil, map, take, length, length-append, refl, ap, sym, subst, ◌∙◌, arith, slice_get, Option, Some, None, Result, Ok, Err}
+use Rattle.std.proofs.Common.{◌≡◌, ℕ, ◌<◌, ◌≤◌, nat_le, Bool, true, false, cond, not, ◌&&◌, ◌||◌, List, [], ◌∷◌, ◌++◌, append_assoc, append-nil, map, length, length-append, refl, ap, sym, subst, ◌∙◌, arith, slice_get, Some, None, Result, Ok, Err}
 use Rattle.std.specs.Prelude.{codes, option_and_then}
 use Rattle.std.specs.List.{list_all, list_any, flat_map, AllByRecursion}
 use Rattle.std.specs.Str.{bytes_eq, IsUtf8}
@@ -13,18 +13,18 @@ use Rattle.sq_schema.specs.declared.property.Kind.{Kind}
 use Rattle.sq_schema.specs.declared.property.Kind.TheVariants.{Text, Integer, DateTime, YesNo}
 use Rattle.sq_schema.specs.declared.property.Property.{Property}
 use Rattle.sq_schema.specs.Names as schema_names
-use Rattle.sq_schema.specs.Properties.{IsSchema, row_fault, fault_behind, is_sound, has_name, is_text, is_integer}
+use Rattle.sq_schema.specs.Properties.{IsSchema, fault_behind, is_sound, has_name, is_text, is_integer}
 use Rattle.sq_model.specs.declared.corpus.Caller.{Caller}
 use Rattle.sq_model.specs.Valid.{is_name, is_caller, are_different}
 use Rattle.sq_corpus.specs.declared.before.Before.{Before}
 use Rattle.sq_corpus.specs.declared.before.Stage.{Stage}
-use Rattle.sq_corpus.specs.declared.before.Stage.TheVariants.{Start, InProperties, InCallers}
+use Rattle.sq_corpus.specs.declared.before.Stage.TheVariants.{InProperties, InCallers}
 use Rattle.sq_corpus.specs.declared.words.LineKind.TheVariants.{CallerRow, ItemHead}
 use Rattle.sq_corpus.specs.CorpusText.{nothing_before, may_end}
 use Rattle.sq_corpus.specs.Lines.{may_stand, with_row, with_property, with_caller, is_named, with_known, with_fields}
 use Rattle.sq_corpus.specs.Words.{line_kind, kind_of, flags_of, flags}
 use Rattle.sq_corpus.specs.Written.{line, property_line, kind_word, flags_word, Each, IsCallerText}
-use Rattle.sq_corpus.proofs.CleanLemmas.{both_true, left_true, right_true}
+use Rattle.sq_corpus.proofs.CleanLemmas.{left_true, right_true}
 use Rattle.sq_corpus.proofs.SoundLemmas.{name_of}
 use Rattle.sq_corpus.proofs.PlainLemmas.{Plain}
 use Rattle.sq_corpus.proofs.SpelledLemmas.{name_plain, row_name_plain}

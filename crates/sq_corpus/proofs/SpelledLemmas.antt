@@ -1,12 +1,11 @@
 -- What the fields are that are written, and that they are read back.
-use Rattle.std.proofs.Common.{◌≡◌, ℕ, ◌+◌, ◌/◌, ◌%◌, ◌<◌, ◌≤◌, lit<, Bool, true, false, cond, not, ◌&&◌, ◌||◌, ◌==◌, nat_le, nat_lt, List, [], ◌∷◌, ◌++◌, append-nil, length, refl, ap, sym, subst, ◌∙◌, arith, chars, encode_utf8, encode_utf8_all, IsUtf8, Option, Some, None, option_map, option_and_then, Result, Ok, Err, ℤ, pos, neg_ℤ, ◌≤ℤ◌, int_le, FitsSigned, unsigned_abs}
+use Rattle.std.proofs.Common.{◌≡◌, ℕ, ◌<◌, ◌≤◌, Bool, true, false, cond, not, ◌&&◌, ◌||◌, ◌==◌, nat_le, nat_lt, List, [], ◌∷◌, ◌++◌, length, refl, ap, sym, subst, ◌∙◌, arith, chars, encode_utf8_all, IsUtf8, Some, option_map, Result, Ok, Err, ℤ, pos, neg_ℤ, ◌≤ℤ◌, int_le, FitsSigned}
 use Rattle.std.specs.Prelude.{codes}
 use lib.Utf8.{scalar}
 use Rattle.std.specs.List.{list_all, flat_map}
 use Rattle.std.specs.Str.{all_scalars}
 use Rattle.std.specs.Str.Parse.{starts_with_minus, digits_value}
 use Rattle.std.specs.Char.{is_control, is_ascii_digit}
-use Rattle.std.specs.Fmt.{signed_decimal}
 use Rattle.std.specs.Int.{w64}
 use Rattle.std.proofs.lemmas.Str.{chars-encodes, encodes-chars, scalars-chars}
 use Rattle.std.proofs.lemmas.Bool.Decides.{nat_tests}
@@ -22,7 +21,7 @@ use Rattle.sq_model.specs.Valid.{is_name}
 use Rattle.sq_corpus.specs.Escapes.{escaped, unescaped, behind_backslash, text_of}
 use Rattle.sq_corpus.specs.Written.{escape, spelled}
 use Rattle.sq_corpus.proofs.CleanLemmas.{both_true, left_true, right_true, apart}
-use Rattle.sq_corpus.proofs.PlainLemmas.{in_line, in_field, Spelt, Plain, spelt_nil, spelt_cons}
+use Rattle.sq_corpus.proofs.PlainLemmas.{in_field, Plain, spelt_nil, spelt_cons}
 
 never : false ≡ true → ⊥
 never e = cc

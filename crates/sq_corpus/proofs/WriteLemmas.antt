@@ -1,5 +1,5 @@
 -- How a text grows by what a writer adds.
-use Rattle.std.proofs.Common.{◌≡◌, ℕ, zero, suc, ◌+◌, ◌-◌, ◌<◌, ◌≤◌, take, get_or, Bool, true, false, cond, ◌&&◌, ◌==◌, List, [], ◌∷◌, ◌++◌, append_assoc, append-nil, drop, length, filter, refl, ap, sym, subst, ◌∙◌, arith, Option, Some, None, slice_get, chars, encode_utf8, encode_utf8_all, IsUtf8}
+use Rattle.std.proofs.Common.{◌≡◌, ℕ, zero, suc, ◌+◌, ◌-◌, ◌<◌, ◌≤◌, take, get_or, Bool, true, false, cond, ◌&&◌, List, [], ◌∷◌, ◌++◌, append_assoc, append-nil, drop, length, filter, refl, ap, sym, subst, ◌∙◌, arith, Option, Some, None, slice_get, chars, encode_utf8, encode_utf8_all, IsUtf8}
 use Rattle.std.specs.List.{flat_map, list_all}
 use Rattle.std.proofs.lemmas.Str.{chars_past_char, chars-nil, encodes-append}
 use Rattle.std.proofs.lemmas.List.{take_all, drop_all}
@@ -13,7 +13,7 @@ use Rattle.sq_model.specs.declared.corpus.Content.TheVariants.{Words, Number, Mo
 use Rattle.sq_model.specs.declared.corpus.Item.{Item}
 use Rattle.sq_model.specs.declared.corpus.Value.{Value}
 use Rattle.sq_model.specs.Valid.{has_kind, is_content_of, is_value, is_item}
-use Rattle.sq_corpus.specs.Written.{Each, AreRowTexts, IsValueText, is_at, escape, spelled, property_line, line_end}
+use Rattle.sq_corpus.specs.Written.{Each, AreRowTexts, IsValueText, is_at, escape, property_line}
 use Rattle.sq_corpus.specs.Writes.{Appends, has_years, is_in_years, are_in_years}
 use Rattle.sq_corpus.proofs.CleanLemmas.{both_true, left_true, right_true}
 use Rattle.sq_corpus.proofs.ValidLemmas.{parts}

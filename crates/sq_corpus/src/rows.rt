@@ -26,15 +26,16 @@ pub(crate) fn row_of(
     })
 }
 
-// One row is never one too many.
+// A row that a schema refuses by itself isn't sound.
 fn refused(fault: SchemaFault) -> Result<bool, AllocError>
-    ensures { IfOk result (λ sound. (sound ≡ false) × (fault ≢ SchemaFault.TooMany) × (fault ≢ SchemaFault.NoMemory)) }
+    requires { fault ≢ SchemaFault.TooMany }
+    ensures { IfOk result (λ sound. (sound ≡ false) × (fault ≢ SchemaFault.NoMemory)) }
 {
     match fault {
         SchemaFault::BadRow(_) => Ok(false),
         SchemaFault::Repeated(_) => Ok(false),
-        SchemaFault::TooMany => Err(AllocError),
         SchemaFault::NoMemory => Err(AllocError),
+        SchemaFault::TooMany => unreachable!(),
     }
 }
 

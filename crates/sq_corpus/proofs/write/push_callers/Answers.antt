@@ -1,4 +1,4 @@
-use Rattle.std.proofs.Common.{ℕ, ◌≡◌, string_bytes}
+use Rattle.std.proofs.Common.{string_bytes}
 use Rattle.sq_corpus.specs.Written.{Each, IsCallerText}
 use Rattle.sq_corpus.proofs.WriteLemmas.{step-item, ends-each}
 use Rattle.sq_corpus.proofs.write.push_callers.Goals as goal

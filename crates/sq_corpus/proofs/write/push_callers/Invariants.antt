@@ -1,4 +1,4 @@
-use Rattle.std.proofs.Common.{◌++◌, length, string_bytes}
+use Rattle.std.proofs.Common.{length, string_bytes}
 use Rattle.sq_corpus.specs.Written.{Each, IsCallerText}
 use Rattle.sq_corpus.proofs.WriteLemmas.{Continues}
 use Rattle.sq_corpus.proofs.write.push_callers.Given as goal

@@ -1,4 +1,4 @@
-use Rattle.std.proofs.Common.{◌≡◌, true, string_bytes}
+use Rattle.std.proofs.Common.{string_bytes}
 use Rattle.sq_corpus.specs.Written.{Each, IsItemText}
 use Rattle.sq_corpus.specs.Writes.{are_in_years}
 use Rattle.sq_corpus.proofs.WriteLemmas.{step-item, ends-each, rest-all}

@@ -1,4 +1,4 @@
-use Rattle.std.proofs.Common.{◌≡◌, ◌∙◌, ap, sym, append-nil, string_bytes, chars}
+use Rattle.std.proofs.Common.{string_bytes}
 use Rattle.std.specs.Str.Iter.{chars_rest}
 use Rattle.std.proofs.lemmas.Str.{IsUtf8-past_char}
 use Rattle.sq_corpus.proofs.WriteLemmas.{step-spelled, end-spelled}

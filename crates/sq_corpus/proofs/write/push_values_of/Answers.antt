@@ -1,4 +1,4 @@
-use Rattle.std.proofs.Common.{◌≡◌, true, filter, string_bytes}
+use Rattle.std.proofs.Common.{filter, string_bytes}
 use Rattle.sq_corpus.specs.Written.{Each, IsValueText, is_at}
 use Rattle.sq_corpus.specs.Writes.{is_in_years}
 use Rattle.sq_corpus.proofs.WriteLemmas.{step-kept, ends-kept, rest-all}
