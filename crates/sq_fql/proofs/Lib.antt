@@ -5,3 +5,4 @@ pub mod FormLemmas
 pub mod LimitLemmas
 pub mod LiteralLemmas
 pub mod ReadFormLemmas
+mod WellFormedExamples
