@@ -1,7 +1,6 @@
 -- Worked trees.
 use Rattle.std.proofs.Common.{◌≡◌, [], ◌∷◌, refl}
 use Rattle.std.specs.Prelude.{codes, pos}
-use Rattle.sq_fql.specs.declared.raw.FRaw.{FRaw}
 use Rattle.sq_fql.specs.declared.raw.FRaw.TheVariants as tree
 use Rattle.sq_fql.specs.declared.raw.FRaw.TheBlock.{hidden-the_row-FRaw-0, hidden-the_row-FRaw-1}
 use Rattle.sq_fql.specs.declared.raw.Op.TheVariants as op

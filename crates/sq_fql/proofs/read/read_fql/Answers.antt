@@ -1,4 +1,3 @@
-use Rattle.std.proofs.Common.{sym}
 use Rattle.sq_fql.proofs.ReadFormLemmas.{read_formed}
 use Rattle.sq_fql.proofs.read.read_fql.Goals as goal
 
