@@ -1,15 +1,14 @@
 -- Well-formed trees by the plain lists of their operands.
-use Rattle.std.proofs.Common.{◌≡◌, ℕ, suc, ◌+◌, ◌≤◌, Bool, true, List, [], ◌∷◌, ◌++◌, length, refl, sym, subst, ap, ap₂, ◌∙◌, IfSome, arith}
+use Rattle.std.proofs.Common.{◌≡◌, ℕ, suc, ◌+◌, ◌≤◌, true, List, [], ◌∷◌, ◌++◌, length, refl, sym, subst, ap, ◌∙◌, IfSome, arith}
 use Rattle.std.specs.List.{AllByRecursion}
 use Rattle.sq_lex.specs.Bytes.{Text}
-use Rattle.sq_fql.specs.declared.operator.Arity.{Arity}
 use Rattle.sq_fql.specs.declared.raw.Op.{Op}
 use Rattle.sq_fql.specs.declared.raw.Op.TheVariants as op
 use Rattle.sq_fql.specs.declared.raw.FRaw.{FRaw, Row_of-FRaw, end_of-FRaw, more_of-FRaw, items-the_row-FRaw, items_hidden-the_row-FRaw-1}
 use Rattle.sq_fql.specs.declared.raw.FRaw.TheVariants as tree
 use Rattle.sq_fql.specs.declared.raw.FRaw.TheBlock.{hidden-the_row-FRaw-0, hidden-the_row-FRaw-1}
 use Rattle.sq_fql.specs.Operators.{operands_of}
-use Rattle.sq_fql.specs.WellFormed.{operator_in, IsWithinLimits, IsName, count, is_literal, AreLiterals, AreOperands, HasForm, HaveForm, bytes, bytes_each, is_xrank, xranks, xranks_each}
+use Rattle.sq_fql.specs.WellFormed.{operator_in, IsWithinLimits, IsName, count, is_literal, AreLiterals, HasForm, HaveForm, bytes, bytes_each, is_xrank, xranks, xranks_each}
 
 abbrev pub IsLiteral : FRaw → Type 0
 IsLiteral t = is_literal t ≡ true

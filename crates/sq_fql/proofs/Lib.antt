@@ -6,3 +6,4 @@ pub mod FormLemmas
 pub mod LimitLemmas
 pub mod LiteralLemmas
 pub mod ReadFormLemmas
+mod WellFormedExamples

@@ -1,5 +1,5 @@
 -- Parameters that were read are within their limits.
-use Rattle.std.proofs.Common.{◌≡◌, ℕ, ℤ, ◌+◌, ◌*◌, ◌-◌, ◌≤◌, ◌<◌, ◌==◌, nat_lt, Bool, true, false, not, cond, List, [], ◌∷◌, Option, Some, None, Ok, Err, refl, sym, subst, ap, ◌∙◌, IfSome, arith}
+use Rattle.std.proofs.Common.{◌≡◌, ℕ, ℤ, ◌+◌, ◌*◌, ◌-◌, ◌≤◌, ◌==◌, nat_lt, Bool, true, false, not, cond, List, [], ◌∷◌, Option, Some, None, Ok, refl, sym, subst, ap, ◌∙◌, IfSome, arith}
 use Rattle.std.proofs.lemmas.Bool.Decides.{nat_tests}
 use Rattle.std.specs.Prelude.{unsigned_abs, pos, neg_ℤ}
 use Rattle.std.specs.List.{AllByRecursion}
@@ -7,8 +7,8 @@ use Rattle.std.specs.Option.{option_map}
 use Rattle.std.specs.Char.{is_ascii_digit}
 use Rattle.std.specs.Str.{str_eq_ignore_ascii_case}
 use Rattle.sq_lex.specs.Bytes.{Text}
-use Rattle.sq_lex.specs.Outcome.{Outcome, or_refused, refused}
-use Rattle.sq_fql.specs.declared.codes.TheConstants.{BAD_PARAMETER, MAX_BOOST, MAX_COUNT, MAX_NEAR, MISSING_ARGUMENT, NEAR}
+use Rattle.sq_lex.specs.Outcome.{Outcome, or_refused}
+use Rattle.sq_fql.specs.declared.codes.TheConstants.{BAD_PARAMETER, MAX_BOOST, MAX_COUNT, MAX_NEAR, NEAR}
 use Rattle.sq_fql.specs.declared.raw.Mode.{Mode}
 use Rattle.sq_fql.specs.declared.raw.Mode.TheVariants as mode
 use Rattle.sq_fql.specs.declared.raw.Op.{Op}

@@ -1,11 +1,11 @@
 -- Literals and names that were read.
-use Rattle.std.proofs.Common.{◌≡◌, ℕ, suc, ◌+◌, ◌-◌, ◌≤◌, ◌<◌, ◌==◌, ◌&&◌, Bool, true, false, cond, List, [], ◌∷◌, ◌++◌, length, take, drop, get_or, min, Option, Some, None, is_some, Ok, Err, refl, sym, subst, ap, ap₂, ◌∙◌, length-append, length-take, length-drop, arith, encode_utf8, encode_utf8_all, chars, IsUtf8}
+use Rattle.std.proofs.Common.{◌≡◌, ℕ, suc, ◌+◌, ◌-◌, ◌≤◌, ◌<◌, ◌==◌, ◌&&◌, Bool, true, false, cond, List, [], ◌∷◌, ◌++◌, length, drop, get_or, Option, Some, None, is_some, Ok, refl, sym, subst, ap, ap₂, ◌∙◌, length-append, length-take, length-drop, arith, encode_utf8, encode_utf8_all, chars, IsUtf8}
 use Rattle.std.proofs.lemmas.Bool.Decides.{nat_tests}
 use Rattle.std.proofs.lemmas.List.{get_or-take, get_or-drop}
 use Rattle.std.proofs.lemmas.Str.{encodes-chars, IsUtf8-between}
 use Rattle.std.specs.Prelude.{slice_range}
 use Rattle.std.specs.List.{list_all}
-use Rattle.std.specs.Char.{is_ascii_alphabetic, is_ascii_digit}
+use Rattle.std.specs.Char.{is_ascii_alphabetic}
 use Rattle.sq_tokens.specs.Pattern.{first_bad_star}
 use Rattle.sq_lex.specs.declared.class.Class.TheVariants as class
 use Rattle.sq_lex.specs.declared.fql_lexeme.FKind.{FKind}
@@ -13,9 +13,9 @@ use Rattle.sq_lex.specs.declared.fql_lexeme.FKind.TheVariants as kind
 use Rattle.sq_lex.specs.declared.fql_lexeme.FLexeme.{FLexeme}
 use Rattle.sq_lex.specs.Bytes.{Text, is_in}
 use Rattle.sq_lex.specs.Fql.{word_class}
-use Rattle.sq_lex.specs.FqlShape.{AllIn, IsLexeme, IsSpelled}
+use Rattle.sq_lex.specs.FqlShape.{IsLexeme, IsSpelled}
 use Rattle.sq_lex.specs.FqlWhole.{HasInside, IsWhole}
-use Rattle.sq_lex.specs.Outcome.{Outcome, refused}
+use Rattle.sq_lex.specs.Outcome.{refused}
 use Rattle.sq_fql.specs.declared.codes.TheConstants.{BAD_STAR}
 use Rattle.sq_fql.specs.declared.raw.FRaw.{FRaw}
 use Rattle.sq_fql.specs.declared.raw.FRaw.TheVariants as tree

@@ -1,15 +1,14 @@
 -- Trees that were read are well formed.
-use Rattle.std.proofs.Common.{◌≡◌, ◌≢◌, ℕ, zero, suc, ◌+◌, ◌-◌, ◌≤◌, ◌<◌, nat_le, nat_lt, ◌&&◌, Bool, true, false, cond, List, [], ◌∷◌, ◌++◌, length, get_or, Option, Some, None, Ok, Err, refl, sym, subst, ap, ◌∙◌, IfSome, length-append, arith, IsUtf8}
+use Rattle.std.proofs.Common.{◌≡◌, ◌≢◌, ℕ, zero, suc, ◌+◌, ◌≤◌, nat_lt, Bool, true, false, cond, List, [], ◌∷◌, ◌++◌, length, get_or, Option, Some, None, Ok, Err, refl, sym, subst, ap, IfSome, length-append, arith, IsUtf8}
 use Rattle.std.proofs.lemmas.Bool.Decides.{nat_tests}
 use Rattle.std.specs.Char.{is_ascii_alphabetic}
 use Rattle.std.specs.List.{AllByRecursion}
-use Rattle.sq_base.specs.declared.faults.QueryFault.{QueryFault}
 use Rattle.sq_lex.specs.declared.codes.TheConstants.{MAX_TEXT}
 use Rattle.sq_lex.specs.declared.fql_lexeme.FKind.{FKind}
 use Rattle.sq_lex.specs.declared.fql_lexeme.FKind.TheVariants as kind
 use Rattle.sq_lex.specs.declared.fql_lexeme.FLexeme.{FLexeme}
 use Rattle.sq_lex.specs.Bytes.{Text}
-use Rattle.sq_lex.specs.FqlShape.{IsLexeme, AreFrom}
+use Rattle.sq_lex.specs.FqlShape.{AreFrom}
 use Rattle.sq_lex.specs.FqlWhole.{AreWhole}
 use Rattle.sq_lex.specs.Outcome.{Outcome, refused, ◌>>=◌}
 use Rattle.sq_fql.specs.declared.codes.TheConstants.{MAX_LEVELS, MISSING_ARGUMENT}
@@ -24,9 +23,9 @@ use Rattle.sq_fql.specs.declared.look.Role.{Role}
 use Rattle.sq_fql.specs.declared.look.Role.TheVariants as role
 use Rattle.sq_fql.specs.declared.read.Found.{Found}
 use Rattle.sq_fql.specs.Operators.{operator_of, operands_of, named, parameters}
-use Rattle.sq_fql.specs.Parameters.{with_value, operation, nothing_given}
-use Rattle.sq_fql.specs.Read.{Read, Reader, Listed, behind, role_of, role_of_kind, next_role, role_before, wanted, wanted_kind, word_text, content, literal, leaf, nothing, with_operand, parameter_by, with_parameter, literal_only, is_full, is_full_at, extra_code, operand, with_next_operand, entry_by, entry, separator, ended_or, entries, completed, applied, scoped, leaf_before, scope_or_leaf, begun, expression_over, deeper, expression, alone, whole_of}
-use Rattle.sq_fql.specs.WellFormed.{operator_in, IsName, HasForm, is_xrank, IsWellFormed}
+use Rattle.sq_fql.specs.Parameters.{with_value, operation}
+use Rattle.sq_fql.specs.Read.{Read, Reader, Listed, behind, role_of, role_of_kind, wanted, wanted_kind, word_text, content, literal, leaf, nothing, with_operand, parameter_by, with_parameter, literal_only, is_full, is_full_at, extra_code, operand, with_next_operand, entry_by, entry, separator, ended_or, entries, completed, applied, scoped, leaf_before, begun, expression_over, deeper, expression, alone, whole_of}
+use Rattle.sq_fql.specs.WellFormed.{IsName, HasForm, IsWellFormed}
 use Rattle.sq_fql.proofs.FormLemmas.{IsLiteral, weight, weights, weights-append, all-append, form_apply, weight_apply, form_scope, weight_scope, few_xranks}
 use Rattle.sq_fql.proofs.LimitLemmas.{IsOf, IsGiven, given_none, value_given, named_of, Makes, operation_makes}
 use Rattle.sq_fql.proofs.LiteralLemmas.{Good, width, Leaf, literal_leaf, leaf_leaf, scope_name}
