@@ -1,0 +1,5 @@
+pub mod Formed
+pub mod Forms
+pub mod Kql
+pub mod KqlValues
+pub mod Together
