@@ -1,0 +1,4 @@
+//! Typing of the raw trees of both query languages against a schema.
+#![tactic(auto)]
+
+mod copies;
