@@ -11,8 +11,8 @@ use Rattle.sq_model.specs.KqlCopies.{weights, weights_each, copies, copies_each}
 use Rattle.sq_model.specs.declared.kql.KTree.{KTree, Free, All, Words, TextTest, ValueTest, Run', And', Xrank', Group, Near, Or, Group', Near', Or', Row_of-KTree, end_of-KTree, more_of-KTree, items-the_row-KTree, items_hidden-the_row-KTree-2}
 use Rattle.sq_model.specs.declared.kql.KTree.TheBlock.{shape-the_row-KTree-0, hidden-the_row-KTree-0, hidden-the_row-KTree-2}
 use Rattle.sq_typing.specs.Forms.{is_filled, are_filled, each_filled, IsCount, HasForms}
-use Rattle.sq_typing.specs.declared.copies.Forms.{Forms}
-use Rattle.sq_typing.specs.declared.copies.Forms.TheVariants.{Many, Few}
+use Rattle.sq_typing.specs.declared.forms.Forms.{Forms}
+use Rattle.sq_typing.specs.declared.forms.Forms.TheVariants.{Many, Few}
 use Rattle.sq_typing.proofs.DistinctLemmas.{distinct_again, some_distinct, some_sums}
 
 -- ---- by lists

@@ -39,8 +39,8 @@ module _ (found : List ℕ) (most : ℕ) (part : KTree) (rest parts : List KTree
       Counted next now rest parts
   first_few items next number now items_are number_is few next_is now_is = record {
     weights =
-      ap (λ seen. with_all seen (joined (map weights rest))) (next_is ∙ ap (with_all found) items_are)
-      ∙ (sym (with_all-append found (weights part) (joined (map weights rest))) ∙ before.weights);
+        ap (λ seen. with_all seen (joined (map weights rest))) (next_is ∙ ap (with_all found) items_are)
+        ∙ (sym (with_all-append found (weights part) (joined (map weights rest))) ∙ before.weights);
     copies = omega (arith, before.copies);
     few = omega (arith, before.few);
     filled = and_right _ _ before.filled;

@@ -3,8 +3,8 @@ use Rattle.std.specs.Prelude.{◌≡◌, ℕ, ◌<◌, ◌≤◌, nat_eq, nat_le
 use Rattle.sq_model.specs.Lists.{is_empty}
 use Rattle.sq_model.specs.KqlSound.{LeafSound, LeavesSound}
 use Rattle.sq_model.specs.declared.kql.KTree.{KTree, Free, Words, Group', Near', Or', Row_of-KTree, end_of-KTree, more_of-KTree}
-use Rattle.sq_typing.specs.declared.copies.Forms.{Forms}
-use Rattle.sq_typing.specs.declared.copies.Forms.TheVariants.{Many, Few}
+use Rattle.sq_typing.specs.declared.forms.Forms.{Forms}
+use Rattle.sq_typing.specs.declared.forms.Forms.TheVariants.{Many, Few}
 
 abbrev mutual
   -- a proximity expression in which no list is empty

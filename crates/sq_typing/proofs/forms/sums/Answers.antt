@@ -3,7 +3,7 @@ use Rattle.std.specs.List.{flat_map}
 use Rattle.sq_model.specs.Copies.{distinct}
 use Rattle.sq_typing.specs.Forms.{with_all}
 use Rattle.sq_typing.proofs.DistinctLemmas.{distinct_of_all, sums_of_two, sums_next}
-use Rattle.sq_typing.proofs.copies.sums.Goals as goal
+use Rattle.sq_typing.proofs.forms.sums.Goals as goal
 
 pub loop-first-init : goal.loop-first-init
 loop-first-init c =

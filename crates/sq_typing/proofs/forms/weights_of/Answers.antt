@@ -1,7 +1,7 @@
 use Rattle.std.proofs.Common.{map, length, ap, ◌∙◌}
 use Rattle.sq_typing.specs.Forms.{with_all}
 use Rattle.sq_typing.proofs.DistinctLemmas.{distinct_of_all}
-use Rattle.sq_typing.proofs.copies.weights_of.Goals as goal
+use Rattle.sq_typing.proofs.forms.weights_of.Goals as goal
 
 pub loop-leaf-init : goal.loop-leaf-init
 loop-leaf-init c =

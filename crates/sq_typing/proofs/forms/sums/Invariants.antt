@@ -4,7 +4,7 @@ use Rattle.std.specs.List.{flat_map}
 use Rattle.sq_model.specs.Triples.{choices}
 use Rattle.sq_model.specs.Copies.{distinct}
 use Rattle.sq_typing.specs.Forms.{with_all}
-use Rattle.sq_typing.proofs.copies.sums.Given as goal
+use Rattle.sq_typing.proofs.forms.sums.Given as goal
 
 abbrev pub invariant-loop-first : goal.invariant-loop-first
 invariant-loop-first l =
