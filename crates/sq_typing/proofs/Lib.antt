@@ -2,3 +2,6 @@ pub mod CopiesLemmas
 mod CountLemmas
 pub mod DistinctLemmas
 pub mod SoundLemmas
+pub mod SpanLemmas
+mod SumLemmas
+mod SummedLemmas

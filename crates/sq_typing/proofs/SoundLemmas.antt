@@ -8,10 +8,7 @@ use Rattle.sq_model.specs.KqlSound.{PartsSound, SomeSound, EachSound, is_proximi
 use Rattle.sq_model.specs.Lists.{is_empty}
 use Rattle.sq_model.specs.declared.kql.KTree.{KTree, Free, Words, Group', Near', Or', Row_of-KTree, end_of-KTree, more_of-KTree}
 use Rattle.sq_typing.specs.Forms.{is_filled, are_filled, each_filled, ProximitySound, SomeProximitySound, EachProximitySound}
-use Rattle.sq_typing.proofs.CopiesLemmas.{near_bounds, has_weight}
-
-both_true : (a b : Bool) → a ≡ true → b ≡ true → (a && b) ≡ true
-both_true a b left right = rw (left, right) refl
+use Rattle.sq_typing.proofs.CopiesLemmas.{both_true, near_bounds, has_weight}
 
 mutual
   pub filled_of_sound : (tree : KTree) → ProximitySound tree → is_filled tree ≡ true

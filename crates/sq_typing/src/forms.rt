@@ -78,7 +78,7 @@ fn sums(alloc: Global, firsts: &[u64], seconds: &[u64]) -> Result<Vec<u64>, Allo
 }
 
 /// The product of the three, where it is not too many.
-fn few_of(firsts: usize, seconds: usize, greatest: u64) -> Option<u64>
+pub(crate) fn few_of(firsts: usize, seconds: usize, greatest: u64) -> Option<u64>
     requires { 0 < greatest }
     ensures { MatchOption result (256 < firsts * (seconds * 1) * greatest) (λ number. (number ≡ firsts * (seconds * 1) * greatest) × (number ≤ 256)) }
 {
