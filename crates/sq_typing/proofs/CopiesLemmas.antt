@@ -13,7 +13,8 @@ use Rattle.sq_model.specs.declared.kql.KTree.TheBlock.{shape-the_row-KTree-0, hi
 use Rattle.sq_typing.specs.Forms.{is_filled, are_filled, each_filled, IsCount, HasForms}
 use Rattle.sq_typing.specs.declared.forms.Forms.{Forms}
 use Rattle.sq_typing.specs.declared.forms.Forms.TheVariants.{Many, Few}
-use Rattle.sq_typing.proofs.DistinctLemmas.{distinct_again, some_distinct, some_sums}
+use Rattle.sq_typing.proofs.DistinctLemmas.{distinct_again, some_distinct}
+use Rattle.sq_typing.proofs.SumLemmas.{some_sums}
 
 -- ---- by lists
 

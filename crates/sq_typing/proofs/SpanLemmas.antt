@@ -9,7 +9,7 @@ use Rattle.sq_model.specs.Copies.{distinct, greatest, product, weights, weights_
 use Rattle.sq_model.specs.FqlSound.{SpansSound, SomeSpansSound, EachSpansSound}
 use Rattle.sq_model.specs.declared.fql.SpanTree.{SpanTree, Leaf, Union, Near, Union', Near', Row_of-SpanTree, end_of-SpanTree, more_of-SpanTree, items-the_row-SpanTree, items_hidden-the_row-SpanTree-0}
 use Rattle.sq_model.specs.declared.fql.SpanTree.TheBlock.{hidden-the_row-SpanTree-0}
-use Rattle.sq_typing.specs.SpanForms.{is_filled, are_filled, each_filled, sums_of}
+use Rattle.sq_typing.specs.SpanForms.{is_filled, are_filled, each_filled}
 use Rattle.sq_typing.proofs.CopiesLemmas.{and_left, and_right, both_true}
 use Rattle.sq_typing.proofs.DistinctLemmas.{some_distinct}
 use Rattle.sq_typing.proofs.SumLemmas.{all_sums, sums_start, sums_on, sums_end, length_sums, length_all_sums}

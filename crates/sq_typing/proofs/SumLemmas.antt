@@ -1,5 +1,5 @@
 -- The sums that take one number of each of several lists.
-use Rattle.std.proofs.Common.{◌≡◌, ℕ, ◌+◌, ◌*◌, ◌<◌, ◌≤◌, List, [], ◌∷◌, ◌++◌, map, length, refl, suc, sym, ap, ap₂, ◌∙◌, arith, append_assoc, length-append}
+use Rattle.std.proofs.Common.{◌≡◌, ℕ, ◌+◌, ◌*◌, ◌<◌, ◌≤◌, List, [], ◌∷◌, ◌++◌, map, length, refl, suc, sym, ap, ap₂, subst, ◌∙◌, arith, append_assoc, length-append}
 use Rattle.std.specs.Prelude.{sum, max}
 use Rattle.std.specs.List.{flat_map}
 use Rattle.std.proofs.lemmas.List.{append-nil, map-append}
@@ -8,7 +8,7 @@ use Rattle.std.proofs.lemmas.Grind.{flat_map-append}
 use Rattle.std.proofs.lemmas.Nat.{mul-le}
 use Rattle.sq_model.specs.Triples.{choices}
 use Rattle.sq_model.specs.Copies.{product}
-use Rattle.sq_typing.specs.SpanForms.{sums_of}
+use Rattle.sq_typing.specs.Forms.{sums_of}
 
 abbrev pub all_sums : List (List ℕ) → List ℕ
 all_sums lists = map sum (choices lists)
@@ -69,3 +69,13 @@ length_sums (n ∷ ns) ms =
 pub length_all_sums : (lists : List (List ℕ)) → length (all_sums lists) ≡ product (map length lists)
 length_all_sums [] = refl
 length_all_sums (ns ∷ lists) = ap length (all_sums-cons ns lists) ∙ (length_sums ns (all_sums lists) ∙ ap (λ k. length ns * k) (length_all_sums lists))
+
+single_sums : (ns : List ℕ) → all_sums (ns ∷ []) ≡ ns
+single_sums ns = all_sums-cons ns [] ∙ sums_end ns
+
+pub sums_of_two : (ns ms : List ℕ) → all_sums (ns ∷ ms ∷ []) ≡ sums_of ns ms
+sums_of_two ns ms = all_sums-cons ns (ms ∷ []) ∙ ap (sums_of ns) (single_sums ms)
+
+pub some_sums : (ns ms : List ℕ) → 0 < length ns → 0 < length ms → 0 < length (all_sums (ns ∷ ms ∷ []))
+some_sums ns ms some_n some_m =
+    subst (λ sums. 0 < length sums) (sym (sums_of_two ns ms)) (omega (arith, length_sums ns ms, mul-le 1 1 (length ns) (length ms) (omega arith) (omega arith)))

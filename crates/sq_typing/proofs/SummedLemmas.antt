@@ -8,8 +8,8 @@ use Rattle.sq_model.specs.Triples.{choices}
 use Rattle.sq_model.specs.Copies.{distinct, greatest, product, weights, copies}
 use Rattle.sq_model.specs.declared.fql.SpanTree.{SpanTree}
 use Rattle.sq_typing.specs.declared.forms.Forms.{Forms}
-use Rattle.sq_typing.specs.Forms.{IsCount}
-use Rattle.sq_typing.specs.SpanForms.{is_filled, sums_of}
+use Rattle.sq_typing.specs.Forms.{sums_of, IsCount}
+use Rattle.sq_typing.specs.SpanForms.{is_filled}
 use Rattle.sq_typing.proofs.CopiesLemmas.{and_left, and_right, same_count}
 use Rattle.sq_typing.proofs.CountLemmas.{next_of}
 use Rattle.sq_typing.proofs.SumLemmas.{all_sums, sums_start, sums_on, sums_end, length_sums, length_all_sums}

@@ -1,6 +1,5 @@
 -- Proximity expressions of FQL in which no list is empty.
-use Rattle.std.specs.Prelude.{ℕ, ◌+◌, Bool, true, false, ◌&&◌, List, map}
-use Rattle.std.specs.List.{flat_map}
+use Rattle.std.specs.Prelude.{Bool, true, false, ◌&&◌}
 use Rattle.sq_model.specs.declared.fql.SpanTree.{SpanTree, Leaf, Union', Near', Row_of-SpanTree, end_of-SpanTree, more_of-SpanTree}
 
 abbrev mutual
@@ -18,7 +17,3 @@ abbrev mutual
   pub each_filled : {m : _} → Row_of-SpanTree m → Bool
   each_filled end_of-SpanTree = true
   each_filled (more_of-SpanTree part rest) = is_filled part && each_filled rest
-
--- each sum that takes one number of each of two lists
-abbrev pub sums_of : List ℕ → List ℕ → List ℕ
-sums_of ns ms = flat_map (λ n. map (λ m. n + m) ms) ns

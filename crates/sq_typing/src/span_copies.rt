@@ -1,46 +1,22 @@
 //! How many forms a proximity expression of FQL takes by the weights of its parts.
-ghost use Rattle.std.specs.Prelude.{◌≡◌, ◌+◌, ◌*◌, ◌<◌, ◌≤◌, nat_le, true, [], ◌∷◌, ◌++◌, map, sum, length, IfOk, OnOk};
+ghost use Rattle.std.specs.Prelude.{◌≡◌, ◌*◌, ◌≤◌, nat_le, true, [], ◌∷◌, map, sum, length, IfOk};
 ghost use Rattle.std.specs.List.{list_all};
 ghost use Rattle.sq_model.specs.Lists.{joined};
 ghost use Rattle.sq_model.specs.Triples.{choices};
 ghost use Rattle.sq_model.specs.Copies.{distinct, greatest, product, weights, copies};
 ghost use Rattle.sq_typing.specs.Forms.{IsCount};
-ghost use Rattle.sq_typing.specs.SpanForms.{is_filled, sums_of};
+ghost use Rattle.sq_typing.specs.SpanForms.{is_filled};
 
-use crate::forms::{Forms, few_of, put_all, weight_of};
+use crate::forms::{Forms, each_once, few_of, put_all, sums_of, weight_of};
 use sq_model::SpanTree;
 use std::alloc::{AllocError, Global};
-
-/// Gives up, as for want of memory, where a sum passes 64 bits.
-fn add_sums(all: &mut Vec<u64>, first: u64, seconds: &[u64]) -> Result<(), AllocError>
-    ensures { OnOk result (all.new.items ≡ all.old.items ++ map (λ second. first + second) seconds.now) }
-{
-    for second in seconds {
-        let Some(sum) = first.checked_add(*second) else {
-            return Err(AllocError);
-        };
-        all.push(sum)?;
-    }
-    Ok(())
-}
-
-fn sums_of(alloc: Global, firsts: &[u64], seconds: &[u64]) -> Result<Vec<u64>, AllocError>
-    ensures { IfOk result (λ all. all.items ≡ sums_of firsts.now seconds.now) }
-{
-    let mut all = Vec::new(alloc);
-    for first in firsts {
-        add_sums(&mut all, *first, seconds)?;
-    }
-    Ok(all)
-}
 
 /// The forms of a near by the sums that take one weight of each part, and the greatest copies of a part.
 fn forms_by_sums(alloc: Global, sums: &[u64], greatest: u64) -> Result<Forms, AllocError>
     requires { length sums.now * greatest ≤ 256 }
     ensures { IfOk result (IsCount (distinct sums.now) (length sums.now * greatest)) }
 {
-    let mut weights = Vec::new(alloc);
-    put_all(&mut weights, sums)?;
+    let weights = each_once(alloc, sums)?;
     Ok(Forms::Few {
         weights,
         copies: sums.len() as u64 * greatest,

@@ -5,8 +5,8 @@ use Rattle.sq_model.specs.Copies.{distinct, greatest, product, weights, copies}
 use Rattle.sq_model.specs.declared.fql.SpanTree.{SpanTree, Near}
 use Rattle.sq_typing.specs.declared.forms.Forms.{Forms}
 use Rattle.sq_model.specs.declared.fql.SpanTree.TheFolds
-use Rattle.sq_typing.specs.Forms.{IsCount}
-use Rattle.sq_typing.specs.SpanForms.{is_filled, sums_of}
+use Rattle.sq_typing.specs.Forms.{sums_of, IsCount}
+use Rattle.sq_typing.specs.SpanForms.{is_filled}
 use Rattle.sq_typing.proofs.CopiesLemmas.{same_count}
 use Rattle.sq_typing.proofs.CountLemmas.{counted_start, part_few}
 use Rattle.sq_typing.proofs.SpanLemmas.{filled_union, filled_near, weights_near, copies_near, has_copy}
