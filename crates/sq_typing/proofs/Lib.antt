@@ -1,3 +1,4 @@
+mod CopiesExamples
 pub mod CopiesLemmas
 mod CountLemmas
 pub mod DistinctLemmas

@@ -46,6 +46,9 @@ module _ (parts : List SpanTree) where
   pub copies_union : copies (Union parts) ≡ greatest (map copies parts)
   copies_union = ap greatest copies_here
 
+  pub built_union : is_filled (Union parts) ≡ (not (is_empty parts) && list_all is_filled parts)
+  built_union = filled_here
+
   pub filled_union : is_filled (Union parts) ≡ true → list_all is_filled parts ≡ true
   filled_union filled = and_right _ _ (sym filled_here ∙ filled)
 
@@ -56,8 +59,13 @@ module _ (parts : List SpanTree) where
     pub copies_near : copies (Near parts n ordered) ≡ product (map length (map weights parts)) * greatest (map copies parts)
     copies_near = ap₂ (λ lists numbers. product (map length lists) * greatest numbers) weights_here copies_here
 
+    pub built_near : is_filled (Near parts n ordered) ≡ (not (is_empty parts) && list_all is_filled parts)
+    built_near = filled_here
+
     pub filled_near : is_filled (Near parts n ordered) ≡ true → list_all is_filled parts ≡ true
     filled_near filled = and_right _ _ (sym filled_here ∙ filled)
+
+pub ruleset built_rules = (built_union, built_near)
 
 pub ruleset span_rules = (weights_union, copies_union, weights_near, copies_near)
 

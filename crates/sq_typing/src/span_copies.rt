@@ -123,3 +123,65 @@ pub(crate) fn are_few_spans(alloc: Global, tree: &SpanTree) -> Result<bool, Allo
         Forms::Few { .. } => Ok(true),
     }
 }
+
+#[cfg(test)]
+mod tests {
+    use super::are_few_spans;
+    use sq_base::{List, Text};
+    use sq_model::{Leaf, SpanTree};
+    use sq_tokens::pattern_of;
+    use std::alloc::Global;
+    use std::process::Abort;
+    use std::test::Fail;
+
+    fn leaf(rt: &impl Abort, alloc: Global, text: &str) -> Result<SpanTree, Fail>
+        ensures { IfOk result (λ tree. is_filled tree ≡ true) }
+    {
+        assert!(rt; text.len() < 100);
+        Ok(SpanTree::Leaf(Leaf {
+            text: Text::from_str(alloc, text)?,
+            pattern: pattern_of(alloc, text)?,
+        }))
+    }
+
+    /// Either of two phrases, of one token and of two.
+    #[tactic(auto, using(crate::proofs::SpanLemmas::built_rules))]
+    fn one_or_two(rt: &impl Abort, alloc: Global) -> Result<SpanTree, Fail>
+        ensures { IfOk result (λ tree. is_filled tree ≡ true) }
+    {
+        let mut parts = List::new(alloc);
+        parts.push(leaf(rt, alloc, "a")?)?;
+        parts.push(leaf(rt, alloc, "a a")?)?;
+        Ok(SpanTree::Union(parts))
+    }
+
+    fn alternatives(rt: &impl Abort, alloc: Global, count: usize) -> Result<List<SpanTree>, Fail>
+        ensures { IfOk result (λ trees. list_all is_filled trees ≡ true) }
+    {
+        let mut parts = List::new(alloc);
+        for _ in 0..count {
+            parts.push(one_or_two(rt, alloc)?)?;
+        }
+        Ok(parts)
+    }
+
+    #[tactic(auto, using(crate::proofs::SpanLemmas::built_rules))]
+    fn is_few_near(rt: &impl Abort, alloc: Global, count: usize) -> Result<bool, Fail> {
+        let parts = alternatives(rt, alloc, count)?;
+        assert!(rt; parts.len() != 0);
+        let tree = SpanTree::Near {
+            parts,
+            n: 8,
+            ordered: true,
+        };
+        Ok(are_few_spans(alloc, &tree)?)
+    }
+
+    #[test]
+    fn each_part_multiplies(rt: HostRuntime) -> Result<(), Fail> {
+        let alloc = rt.alloc();
+        assert!(rt; is_few_near(&rt, alloc, 8)?);
+        assert!(rt; !is_few_near(&rt, alloc, 9)?);
+        Ok(())
+    }
+}
