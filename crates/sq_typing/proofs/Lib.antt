@@ -4,9 +4,11 @@ mod CountLemmas
 pub mod DistinctLemmas
 pub mod FormedLemmas
 pub mod KqlEquations
+mod KqlTypingExamples
 pub mod LeafLemmas
 pub mod NodeLemmas
 pub mod ProximateLemmas
+mod SizeLemmas
 pub mod SoundLemmas
 pub mod SpanLemmas
 mod SumLemmas
