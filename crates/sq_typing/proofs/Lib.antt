@@ -1,0 +1,16 @@
+mod CopiesExamples
+pub mod CopiesLemmas
+mod CountLemmas
+pub mod DistinctLemmas
+pub mod FormedLemmas
+pub mod KqlEquations
+mod KqlTypingExamples
+pub mod LeafLemmas
+pub mod NodeLemmas
+pub mod ProximateLemmas
+mod SizeLemmas
+pub mod SoundLemmas
+pub mod SpanLemmas
+mod SumLemmas
+mod SummedLemmas
+pub mod TogetherLemmas

@@ -1,0 +1,71 @@
+use Rattle.std.proofs.Common.{rules, map, subst, ap, ap₂, sym, ◌∙◌}
+use Rattle.std.specs.List.{All}
+use Rattle.sq_model.specs.declared.kql.KTree.TheVariants as tree
+use Rattle.sq_typing.specs.Formed.{IsFormed, IsLiteral}
+use Rattle.sq_typing.specs.Kql.{proximate}
+use Rattle.sq_typing.specs.Together.{mapped, together, all_of}
+use Rattle.sq_typing.proofs.FormedLemmas.{formed_words, formed_group, formed_left, formed_right, formed_or}
+use Rattle.sq_typing.proofs.KqlEquations.{proximate_group, proximate_near, proximate_or}
+use Rattle.sq_typing.proofs.NodeLemmas.{nodes_group, nodes_left, nodes_right, nodes_or, at_most_all, below, below_tree, below_list}
+use Rattle.sq_typing.proofs.TogetherLemmas.{step}
+use Rattle.sq_typing.proofs.kql_near.+kql_near.Goals as goal
+
+pub proximate-leaves-requires : goal.proximate-leaves-requires
+proximate-leaves-requires t c = subst (All IsLiteral) (sym c.as_slice.ensures) (formed_words c.in-Words.at c.in-Words.pieces c.in-Words.is c.requires)
+
+pub proximate-proximate-requires : goal.proximate-proximate-requires
+proximate-proximate-requires t c = (
+  below _ _ _ (nodes_group c.get.result.now c.in-Group.at c.in-Group.inner c.in-Group.is c.get.ensures) c.decreases,
+  subst IsFormed (sym c.get.ensures) (formed_group c.in-Group.at c.in-Group.inner c.in-Group.is c.requires),
+)
+
+pub proximate-proximate-requires-in-Near : goal.proximate-proximate-requires-in-Near
+proximate-proximate-requires-in-Near t c = (
+  below _ _ _ (nodes_left c.get-in-Near.result.now c.in-Near.at c.in-Near.left c.in-Near.right c.in-Near.n c.in-Near.ordered c.in-Near.is c.get-in-Near.ensures) c.decreases,
+  subst IsFormed (sym c.get-in-Near.ensures) (formed_left c.in-Near.at c.in-Near.left c.in-Near.right c.in-Near.n c.in-Near.ordered c.in-Near.is c.requires),
+)
+
+pub proximate-proximate-requires-in-Near-2 : goal.proximate-proximate-requires-in-Near-2
+proximate-proximate-requires-in-Near-2 t c = (
+  below _ _ _ (nodes_right c.get-in-Near-2.result.now c.in-Near.at c.in-Near.left c.in-Near.right c.in-Near.n c.in-Near.ordered c.in-Near.is c.get-in-Near-2.ensures) c.decreases,
+  subst IsFormed (sym c.get-in-Near-2.ensures) (formed_right c.in-Near.at c.in-Near.left c.in-Near.right c.in-Near.n c.in-Near.ordered c.in-Near.is c.requires),
+)
+
+pub proximate-proximate_each-requires : goal.proximate-proximate_each-requires
+proximate-proximate_each-requires t c = (
+  below_tree _ _ _ (nodes_or c.as_slice-in-Or.result.now c.in-Or.at c.in-Or.parts c.in-Or.is c.as_slice-in-Or.ensures) c.decreases,
+  subst (All IsFormed) (sym c.as_slice-in-Or.ensures) (formed_or c.in-Or.at c.in-Or.parts c.in-Or.is c.requires),
+)
+
+pub proximate_each-proximate-requires : goal.proximate_each-proximate-requires
+proximate_each-proximate-requires t c = (
+  below_list _ _ _ (at_most_all c.args.parts.now c.loop-part.part-index c.part-item.result c.loop-part-test.true c.part-item.is) c.decreases,
+  subst IsFormed (sym c.part-item.is) (c.requires c.loop-part.part-index c.part-item.result c.loop-part-test.true),
+)
+
+pub proximate-returns-in_ok-group-in-Group : goal.proximate-returns-in_ok-group-in-Group
+proximate-returns-in_ok-group-in-Group t c =
+    let here = proximate c.args.schema.now in
+    c.in_ok-group-in-Group.ensures
+    ∙ (ap (mapped tree.Group) (c.in_ok-inside-in-Group.ensures ∙ ap here c.get.ensures)
+    ∙ (sym (proximate_group c.args.schema.now c.in-Group.at c.in-Group.inner) ∙ ap here (sym c.in-Group.is)))
+
+pub proximate-returns-in_ok-near-in-Near : goal.proximate-returns-in_ok-near-in-Near
+proximate-returns-in_ok-near-in-Near t c =
+    let here = proximate c.args.schema.now in
+    c.in_ok-near-in-Near.ensures
+    ∙ (ap₂ (together (λ l r. tree.Near l r c.in-Near.n c.in-Near.ordered))
+    (c.in_ok-left-in-Near.ensures ∙ ap here c.get-in-Near.ensures) (c.in_ok-right-in-Near.ensures ∙ ap here c.get-in-Near-2.ensures)
+    ∙ (sym (proximate_near c.args.schema.now c.in-Near.at c.in-Near.left c.in-Near.right c.in-Near.n c.in-Near.ordered) ∙ ap here (sym c.in-Near.is)))
+
+pub proximate-returns-in_ok-parts-in-Or : goal.proximate-returns-in_ok-parts-in-Or
+proximate-returns-in_ok-parts-in-Or t c =
+    let here = proximate c.args.schema.now in
+    c.or_of.ensures
+    ∙ (ap (mapped tree.Or) (c.in_ok-parts-in-Or.ensures ∙ ap (λ ps. all_of (map here ps)) c.as_slice-in-Or.ensures)
+    ∙ (sym (proximate_or c.args.schema.now c.in-Or.at c.in-Or.parts) ∙ ap here (sym c.in-Or.is)))
+
+pub proximate_each-loop-part-preserved : goal.proximate_each-loop-part-preserved
+proximate_each-loop-part-preserved t c =
+    step (proximate c.args.schema.now) c.args.parts.now c.loop-part.part-index c.part-item.result c.loop-part.typed c.in_ok-next.next c.in_ok-typed.typed _
+    c.loop-part-test.true c.part-item.is c.in_ok-next.ensures c.in_ok-typed.ensures c.loop-part.invariant

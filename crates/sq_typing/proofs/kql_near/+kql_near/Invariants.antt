@@ -1,0 +1,16 @@
+use Rattle.std.proofs.Common.{◌≡◌, ◌+◌, ◌*◌, ◌++◌, map, drop}
+use Rattle.sq_typing.specs.Together.{together, all_of}
+use Rattle.sq_typing.specs.Kql.{proximate}
+use Rattle.sq_kql.specs.WellFormed.{nodes}
+use Rattle.sq_typing.proofs.NodeLemmas.{all_nodes}
+use Rattle.sq_typing.proofs.kql_near.+kql_near.Given as goal
+
+abbrev pub invariant-proximate_each-loop-part : goal.invariant-proximate_each-loop-part
+invariant-proximate_each-loop-part l =
+    together (λ xs ys. xs ++ ys) l.typed (all_of (map (proximate l.schema) (drop l.part-index l.parts))) ≡ all_of (map (proximate l.schema) l.parts)
+
+abbrev pub decreases-proximate : goal.decreases-proximate
+decreases-proximate l = 2 * nodes l.tree.now
+
+abbrev pub decreases-proximate_each : goal.decreases-proximate_each
+decreases-proximate_each l = 2 * all_nodes l.parts.now + 1
