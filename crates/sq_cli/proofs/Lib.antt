@@ -1,4 +1,3 @@
 mod FilterLemmas
 mod HitLemmas
 mod HitsLemmas
-mod LeafLemmas

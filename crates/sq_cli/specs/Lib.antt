@@ -2,6 +2,5 @@ pub mod Answer
 pub mod Answers
 pub mod Command
 pub mod Output
-pub mod PlainQuery
-pub mod ReadsPlain
+pub mod Query
 pub mod Verdict

@@ -12,7 +12,7 @@ use Rattle.sq_model.specs.Access.{view, admits, seen}
 use Rattle.sq_model.specs.Kql.{holds, boost}
 use Rattle.sq_cli.specs.declared.hit.Hit.{Hit}
 use Rattle.sq_cli.specs.Answer.{hits, hit_of}
-use Rattle.sq_cli.specs.PlainQuery.{plain_query}
+use Rattle.sq_cli.specs.Query.{kql_query}
 
 pub data Verdict : Type 0 where
   Unknown : Verdict
@@ -31,13 +31,13 @@ abbrev pub query_verdict : Corpus → List (List ℕ) → Result KTree QueryFaul
 query_verdict corpus claims (Err fault) = Faulty fault
 query_verdict corpus claims (Ok tree) = Answered (answer corpus claims tree)
 
-abbrev pub caller_verdict : Corpus → List ℕ → Option Caller → Verdict
-caller_verdict corpus text None = Unknown
-caller_verdict corpus text (Some caller) = query_verdict corpus caller.claims (plain_query text)
+abbrev pub caller_verdict : Corpus → ℤ → List ℕ → Option Caller → Verdict
+caller_verdict corpus moment text None = Unknown
+caller_verdict corpus moment text (Some caller) = query_verdict corpus caller.claims (kql_query corpus.schema moment text)
 
--- First the caller is judged, then the text. No query of plain words depends on the moment.
+-- First the caller is judged, then the text at a moment.
 abbrev pub verdict : Corpus → List ℕ → ℤ → List ℕ → Verdict
-verdict corpus name moment text = caller_verdict corpus text (find (is_named name) corpus.callers)
+verdict corpus name moment text = caller_verdict corpus moment text (find (is_named name) corpus.callers)
 
 -- the hit of one item, if the caller sees it and the query holds of it
 abbrev pub hit_in : List Property → List (List ℕ) → KTree → Item → Option Hit

@@ -4,13 +4,17 @@ ghost use Rattle.std.specs.List.{find, list_all};
 ghost use Rattle.sq_model.specs.Valid.{has_short_texts};
 ghost use Rattle.sq_model.specs.declared.corpus.Item.{Item as ItemOf};
 ghost use Rattle.sq_cli.specs.Verdict as spec;
+ghost use Rattle.sq_schema.specs.Intervals.{clamped};
 ghost use Rattle.sq_cli.specs.Answers.{Answers};
+ghost use Rattle.sq_cli.specs.Query.{GivesTree, kql_query};
 
 use crate::hit::Hit;
-use crate::plain::read_plain;
 use sq_base::{Fault, QueryFault, Text};
+use sq_kql::read_kql;
 use sq_model::{Caller, Corpus, KTree, admits};
+use sq_schema::Schema;
 use sq_slow::{kql_boost_slow, kql_holds_slow};
+use sq_typing::type_kql;
 use std::alloc::{AllocError, Global};
 
 /// Why a request isn't answered.
@@ -114,21 +118,41 @@ fn hits_of(
     Ok(hits)
 }
 
-/// Answers a text of plain words for the caller of this name.
+/// The typed tree of a query.
+#[tactic(auto, unfolding(crate::specs::Query::kql_query))]
+fn query_of(alloc: Global, schema: &Schema, text: &str, now: i64) -> Result<KTree, Fault>
+    requires { now ≡ clamped now }
+    ensures { GivesTree (kql_query schema.now now text.now) result }
+{
+    let raw = match read_kql(alloc, text) {
+        Ok(raw) => raw,
+        Err(Fault::Query(fault)) => return Err(Fault::Query(fault)),
+        Err(Fault::NoMemory) => return Err(Fault::NoMemory),
+    };
+    match type_kql(alloc, &raw, schema, now) {
+        Ok(tree) => Ok(tree),
+        Err(Fault::Query(fault)) => Err(Fault::Query(fault)),
+        Err(Fault::NoMemory) => Err(Fault::NoMemory),
+    }
+}
+
+/// Answers a KQL text for the caller of this name at a moment, in UTC seconds since
+/// 1970-01-01T00:00:00Z.
 pub fn answer(
     alloc: Global,
     corpus: &Corpus,
     name: &str,
     text: &str,
-    _now: i64,
+    now: i64,
 ) -> Result<Vec<Hit>, Refused>
-    requires { list_all has_short_texts corpus.now.items ≡ true }
-    ensures { Answers (spec.verdict corpus.now name.now _now text.now) result }
+    requires short { list_all has_short_texts corpus.now.items ≡ true }
+    requires now { now ≡ clamped now }
+    ensures { Answers (spec.verdict corpus.now name.now now text.now) result }
 {
     let Some(caller) = caller_named(corpus.callers.as_slice(), name) else {
         return Err(Refused::UnknownCaller);
     };
-    let tree = match read_plain(alloc, text) {
+    let tree = match query_of(alloc, &corpus.schema, text, now) {
         Ok(tree) => tree,
         Err(Fault::Query(fault)) => return Err(Refused::Query(fault)),
         Err(Fault::NoMemory) => return Err(Refused::NoMemory),

@@ -6,7 +6,6 @@ mod adapters;
 mod answer;
 mod command;
 mod hit;
-mod plain;
 mod reply;
 mod run;
 

@@ -5,6 +5,7 @@ ghost use Rattle.std.specs.Io.KnownBytes.{Appends};
 ghost use Rattle.sq_base.specs.Causes.{Rose};
 ghost use Rattle.sq_base.specs.Bytes.{AppendsPrefix};
 ghost use Rattle.sq_model.specs.Valid.{has_short_texts};
+ghost use Rattle.sq_schema.specs.Intervals.{clamped as moment};
 ghost use Rattle.sq_cli.specs.Command.{order_of, plain};
 ghost use Rattle.sq_cli.specs.Verdict as spec;
 ghost use Rattle.sq_cli.specs.Output.{output, order_outcome, corpus_outcome, answer_outcome, Delivers, IsOfOutput, IsReply};
@@ -54,7 +55,8 @@ fn ask_reply(
     text: &str,
     now: i64,
 ) -> Result<Reply, AllocError>
-    requires { list_all has_short_texts corpus.now.items ≡ true }
+    requires short { list_all has_short_texts corpus.now.items ≡ true }
+    requires now { now ≡ moment now }
     ensures reply { IfOk result (IsReply (answer_outcome (spec.verdict corpus.now caller.now now text.now))) }
     ensures status { IfOk result (λ reply. reply.status ≤ 1) }
 {
