@@ -1,5 +1,5 @@
 -- The fields of a line of XML characters in UTF-8 are such texts too, and are together no longer than the line.
-use Rattle.std.proofs.Common.{◌≡◌, ℕ, ◌+◌, ◌/◌, ◌<◌, ◌≤◌, lit≤, Bool, true, false, cond, not, ◌&&◌, ◌==◌, List, [], ◌∷◌, ◌++◌, map, length, refl, ap, sym, subst, ◌∙◌, arith, chars, encode_utf8, encode_utf8_all, sum_by}
+use Rattle.std.proofs.Common.{◌≡◌, ℕ, ◌+◌, ◌/◌, ◌<◌, ◌≤◌, lit≤, lit<, Bool, true, false, cond, not, ◌&&◌, ◌==◌, List, [], ◌∷◌, ◌++◌, map, length, refl, ap, sym, subst, ◌∙◌, arith, chars, encode_utf8, encode_utf8_all, sum_by}
 use lib.Utf8.{scalar, encode, next}
 use Rattle.std.specs.List.{list_all}
 use Rattle.std.specs.Str.{is_utf8, all_scalars}
@@ -39,28 +39,37 @@ abbrev pub AllClean : List (List ℕ) → Type 0
 AllClean [] = Unit {0}
 AllClean (field ∷ fields) = Clean field × AllClean fields
 
--- A byte of a character is a TAB only where the character is.
-no_tab : ℕ → Bool
-no_tab byte = not (byte == 9)
+-- A byte of a character is an ASCII separator only where the character is.
+unfoldable pub apart : ℕ → ℕ → Bool
+apart separator byte = not (byte == separator)
 
-no_tab_high : (byte : ℕ) → 128 ≤ byte → no_tab byte ≡ true
-unfolding no_tab
-no_tab_high byte high = grind (arith, nat_tests, high)
+apart_high : (separator byte : ℕ) → separator < 128 → 128 ≤ byte → apart separator byte ≡ true
+unfolding apart
+apart_high separator byte low high = grind (arith, nat_tests, low, high)
 
-no_tab_low : (c : ℕ) → (c == 9) ≡ false → no_tab c ≡ true
-unfolding no_tab
-no_tab_low c e = ap not e
+pub apart_from : (separator c : ℕ) → (c == separator) ≡ false → apart separator c ≡ true
+unfolding apart
+apart_from separator c e = ap not e
 
-no_tab_at : (one two three : Bool) (c a b d e f g h i j : ℕ) → (c == 9) ≡ false
+pub apart_test : (separator c : ℕ) → apart separator c ≡ true → (c == separator) ≡ false
+unfolding apart
+apart_test separator c e = false_of (c == separator) e
+  where
+    false_of : (t : Bool) → not t ≡ true → t ≡ false
+    false_of true e = cc
+    false_of false e = refl
+
+apart_at : (separator : ℕ) (one two three : Bool) (c a b d e f g h i j : ℕ) → separator < 128 → apart separator c ≡ true
     → 128 ≤ a → 128 ≤ b → 128 ≤ d → 128 ≤ e → 128 ≤ f → 128 ≤ g → 128 ≤ h → 128 ≤ i → 128 ≤ j
-    → list_all no_tab (cond one (c ∷ []) (cond two (a ∷ b ∷ []) (cond three (d ∷ e ∷ f ∷ []) (g ∷ h ∷ i ∷ j ∷ [])))) ≡ true
-no_tab_at true two three c a b d e f g h i j low ha hb hd he hf hg hh hi hj = both_true _ _ (no_tab_low c low) refl
-no_tab_at false true three c a b d e f g h i j low ha hb hd he hf hg hh hi hj =
-    both_true _ _ (no_tab_high a ha) (both_true _ _ (no_tab_high b hb) refl)
-no_tab_at false false true c a b d e f g h i j low ha hb hd he hf hg hh hi hj =
-    both_true _ _ (no_tab_high d hd) (both_true _ _ (no_tab_high e he) (both_true _ _ (no_tab_high f hf) refl))
-no_tab_at false false false c a b d e f g h i j low ha hb hd he hf hg hh hi hj =
-    both_true _ _ (no_tab_high g hg) (both_true _ _ (no_tab_high h hh) (both_true _ _ (no_tab_high i hi) (both_true _ _ (no_tab_high j hj) refl)))
+    → list_all (apart separator) (cond one (c ∷ []) (cond two (a ∷ b ∷ []) (cond three (d ∷ e ∷ f ∷ []) (g ∷ h ∷ i ∷ j ∷ [])))) ≡ true
+apart_at s true two three c a b d e f g h i j low other ha hb hd he hf hg hh hi hj = both_true _ _ other refl
+apart_at s false true three c a b d e f g h i j low other ha hb hd he hf hg hh hi hj =
+    both_true _ _ (apart_high s a low ha) (both_true _ _ (apart_high s b low hb) refl)
+apart_at s false false true c a b d e f g h i j low other ha hb hd he hf hg hh hi hj =
+    both_true _ _ (apart_high s d low hd) (both_true _ _ (apart_high s e low he) (both_true _ _ (apart_high s f low hf) refl))
+apart_at s false false false c a b d e f g h i j low other ha hb hd he hf hg hh hi hj =
+    both_true _ _ (apart_high s g low hg)
+    (both_true _ _ (apart_high s h low hh) (both_true _ _ (apart_high s i low hi) (both_true _ _ (apart_high s j low hj) refl)))
 
 next_high : (bits : ℕ) → 128 ≤ next bits
 next_high bits = omega arith
@@ -68,26 +77,22 @@ next_high bits = omega arith
 above_high : (a b : ℕ) → 128 ≤ a → 128 ≤ a + b
 above_high a b high = omega (arith, high)
 
-no_tab_in : (c : ℕ) → (c == 9) ≡ false → list_all no_tab (encode c) ≡ true
+pub apart_in : (separator c : ℕ) → separator < 128 → apart separator c ≡ true → list_all (apart separator) (encode c) ≡ true
 unfolding encode
-no_tab_in c low =
-    no_tab_at _ _ _ c (192 + c / 64) (next c) (224 + c / 4096) (next (c / 64)) (next c) (240 + c / 262144) (next (c / 4096)) (next (c / 64)) (next c) low
+apart_in separator c low other =
+    apart_at separator _ _ _ c (192 + c / 64) (next c) (224 + c / 4096) (next (c / 64)) (next c) (240 + c / 262144) (next (c / 4096)) (next (c / 64)) (next c)
+    low other
     (above_high 192 (c / 64) (lit≤ tt)) (next_high c) (above_high 224 (c / 4096) (lit≤ tt)) (next_high (c / 64)) (next_high c)
     (above_high 240 (c / 262144) (lit≤ tt)) (next_high (c / 4096)) (next_high (c / 64)) (next_high c)
 
--- bytes without a TAB go to the first field
-pieces_behind : (front rest : List ℕ) → list_all no_tab front ≡ true → (begins : Begins (pieces 9 rest))
-    → pieces 9 (front ++ rest) ≡ (front ++ begins.first) ∷ begins.rest
-unfolding no_tab
-pieces_behind [] rest none begins = begins.is
-pieces_behind (byte ∷ front) rest none begins =
-    let here : (byte == 9) ≡ false = false_of (byte == 9) (left_true (not (byte == 9)) (list_all no_tab front) none) in
-    ap (λ t. cond t ([] ∷ pieces 9 (front ++ rest)) (onto_first byte (pieces 9 (front ++ rest)))) here
-    ∙ ap (onto_first byte) (pieces_behind front rest (right_true (not (byte == 9)) (list_all no_tab front) none) begins)
-  where
-    false_of : (t : Bool) → not t ≡ true → t ≡ false
-    false_of true e = cc
-    false_of false e = refl
+-- bytes without a separator go to the first piece
+pub pieces_behind : (separator : ℕ) (front rest : List ℕ) → list_all (apart separator) front ≡ true → (begins : Begins (pieces separator rest))
+    → pieces separator (front ++ rest) ≡ (front ++ begins.first) ∷ begins.rest
+pieces_behind separator [] rest none begins = begins.is
+pieces_behind separator (byte ∷ front) rest none begins =
+    let here : (byte == separator) ≡ false = apart_test separator byte (left_true (apart separator byte) (list_all (apart separator) front) none) in
+    ap (λ t. cond t ([] ∷ pieces separator (front ++ rest)) (onto_first byte (pieces separator (front ++ rest)))) here
+    ∙ ap (onto_first byte) (pieces_behind separator front rest (right_true (apart separator byte) (list_all (apart separator) front) none) begins)
 
 pieces_encoded_at : (t : Bool) (c : ℕ) (cs : List ℕ) → (c == 9) ≡ t → pieces 9 (encode_utf8_all cs) ≡ map encode_utf8_all (pieces 9 cs)
     → pieces 9 (encode_utf8 c ++ encode_utf8_all cs) ≡ map encode_utf8_all (cond t ([] ∷ pieces 9 cs) (onto_first c (pieces 9 cs)))
@@ -103,7 +108,7 @@ pieces_encoded_at false c cs tab behind =
       rest = map encode_utf8_all begins.rest;
       is = behind ∙ ap (map encode_utf8_all) begins.is;
     } in
-    pieces_behind (encode_utf8 c) (encode_utf8_all cs) (no_tab_in c tab) there
+    pieces_behind 9 (encode_utf8 c) (encode_utf8_all cs) (apart_in 9 c (lit< tt) (apart_from 9 c tab)) there
     ∙ ap (λ ps. map encode_utf8_all (onto_first c ps)) (sym begins.is)
 
 pub pieces_encoded : (cs : List ℕ) → pieces 9 (encode_utf8_all cs) ≡ map encode_utf8_all (pieces 9 cs)

@@ -1,11 +1,20 @@
+mod WorkedExamples
+pub mod BackLemmas
 pub mod CleanLemmas
 pub mod ContentLemmas
 pub mod EscapeLemmas
 pub mod FineLemmas
+pub mod ItemLemmas
 pub mod KeptLemmas
+pub mod LeadLemmas
 pub mod LineLemmas
+pub mod OrderLemmas
 pub mod PieceLemmas
+pub mod PlainLemmas
+pub mod ReadBackLemmas
+pub mod RowLemmas
 pub mod SchemaLemmas
 pub mod SoundLemmas
+pub mod SpelledLemmas
 pub mod ValidLemmas
-mod WorkedExamples
+pub mod WriteLemmas

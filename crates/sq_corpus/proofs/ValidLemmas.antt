@@ -87,15 +87,15 @@ no_items items (Some item) none e = cc
 
 -- The parts of an item.
 
-record Parts (rows : List Property) (item : Item) : Type 0 where
-  low : nat_le 1 item.number ≡ true
-  high : nat_le item.number 4_294_967_294 ≡ true
-  rank : is_from_to (neg_ℤ (pos 1_000_000_000)) (pos 1_000_000_000) item.rank ≡ true
-  url : is_text item.url ≡ true
-  allow : is_claim_list item.allow ≡ true
-  deny : is_claim_list item.deny ≡ true
-  values : list_all (is_value rows) item.values ≡ true
-  few : has_few item.values 0 rows ≡ true
+pub record Parts (rows : List Property) (item : Item) : Type 0 where
+  pub low : nat_le 1 item.number ≡ true
+  pub high : nat_le item.number 4_294_967_294 ≡ true
+  pub rank : is_from_to (neg_ℤ (pos 1_000_000_000)) (pos 1_000_000_000) item.rank ≡ true
+  pub url : is_text item.url ≡ true
+  pub allow : is_claim_list item.allow ≡ true
+  pub deny : is_claim_list item.deny ≡ true
+  pub values : list_all (is_value rows) item.values ≡ true
+  pub few : has_few item.values 0 rows ≡ true
 
 record Eight (a b c d e f g h : Bool) : Type 0 where
   first : a ≡ true
@@ -136,7 +136,7 @@ all_eight a b c d e f g h p =
     p.seventh)
     p.eighth
 
-parts : (rows : List Property) (item : Item) → is_item rows item ≡ true → Parts rows item
+pub parts : (rows : List Property) (item : Item) → is_item rows item ≡ true → Parts rows item
 parts rows item p =
     let q = eight (nat_le 1 item.number) (nat_le item.number 4_294_967_294)
     (is_from_to (neg_ℤ (pos 1_000_000_000)) (pos 1_000_000_000) item.rank) (is_text item.url) (is_claim_list item.allow)

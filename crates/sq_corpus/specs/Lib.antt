@@ -1,7 +1,10 @@
 pub mod CorpusText
 pub mod Escapes
 pub mod Keeps
+pub mod Laws
 pub mod Lines
 pub mod Pieces
 pub mod Reads
 pub mod Words
+pub mod Writes
+pub mod Written

@@ -5,6 +5,7 @@ mod before;
 mod counts;
 mod escapes;
 mod fault;
+mod laws;
 mod names;
 mod pieces;
 mod read;
@@ -12,9 +13,12 @@ mod reader;
 mod rows;
 mod values;
 mod words;
+mod write;
 
 pub use fault::CorpusFault;
+pub use laws::{values_are_kept, written_texts_read_back};
 pub use read::read_corpus;
+pub use write::write_corpus;
 
 #[cfg(test)]
 mod tests;

@@ -9,6 +9,7 @@ ghost use Rattle.sq_lex.specs.Whole.{HasPieces, IsWhole, AreWhole};
 ghost use Rattle.sq_kql.specs.Law.{IsTreeOf};
 ghost use Rattle.sq_kql.specs.Node as node;
 ghost use Rattle.sq_kql.specs.Tree as spec;
+ghost use Rattle.sq_kql.specs.WellFormed.{IsWellFormed};
 
 use crate::level::{
     Level, Listing, Outer, Placed, Reading, fresh, whole, with_and, with_operand, with_or,
@@ -324,6 +325,7 @@ fn tree_of(alloc: Global, text: &str, mut lexemes: &[KLexeme]) -> Result<KRaw, A
 pub fn read_kql(alloc: Global, text: &str) -> Result<KRaw, Fault>
     ensures value { Gives (λ tree. tree) result (spec.read_of text.now) }
     ensures tree { IfOk result (IsTreeOf text.now) }
+    ensures formed { IfOk result IsWellFormed }
 {
     let lexemes = kql_lexemes(alloc, text)?;
     order(text.len() as u32, lexemes.as_slice())?;

@@ -41,6 +41,9 @@ item_ascii b h = grind (arith, nat_tests)
 parameter_ascii : (b : ℕ) → is_in class.Parameter b ≡ false → b < 128
 parameter_ascii b h = grind (arith, nat_tests)
 
+term_ascii : (b : ℕ) → is_in class.Term b ≡ false → b < 128
+term_ascii b h = grind (arith, nat_tests)
+
 quoted_ascii : (b : ℕ) → is_in class.Quoted b ≡ false → b < 128
 quoted_ascii b h = grind (arith, nat_tests)
 
@@ -69,6 +72,7 @@ run_between class.Sign z at to utf8 start ordered within stops last = through_as
 run_between class.Word z at to utf8 start ordered within stops last = at_ascii z to (λ b. is_in class.Word b ≡ false) word_ascii within stops
 run_between class.Item z at to utf8 start ordered within stops last = at_ascii z to (λ b. is_in class.Item b ≡ false) item_ascii within stops
 run_between class.Parameter z at to utf8 start ordered within stops last = at_ascii z to (λ b. is_in class.Parameter b ≡ false) parameter_ascii within stops
+run_between class.Term z at to utf8 start ordered within stops last = at_ascii z to (λ b. is_in class.Term b ≡ false) term_ascii within stops
 run_between class.Quoted z at to utf8 start ordered within stops last = at_ascii z to (λ b. is_in class.Quoted b ≡ false) quoted_ascii within stops
 
 -- ---- places and pieces

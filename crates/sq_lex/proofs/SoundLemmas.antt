@@ -1,7 +1,6 @@
 -- The lexemes of a text are whole and keep their limits.
-use Rattle.std.proofs.Common.{◌≡◌, ℕ, zero, suc, ◌+◌, ◌≤◌, ◌==◌, nat_lt, nat_le, ◌&&◌, ◌||◌, Bool, true, false, if◌then◌else◌, List, [], ◌∷◌, ◌++◌, length, Option, Some, None, Ok, Err, IfOk, IfSome, refl, sym, subst, ap, ◌∙◌, append_assoc, arith}
-use Rattle.std.proofs.lemmas.Bool.Decides.{nat_tests}
-use Rattle.std.specs.Prelude.{is_some, slice_index, slice_range}
+use Rattle.std.proofs.Common.{◌≡◌, ℕ, zero, suc, ◌+◌, ◌≤◌, ◌<◌, ◌==◌, nat_lt, ◌&&◌, ◌||◌, Bool, true, false, if◌then◌else◌, List, [], ◌∷◌, ◌++◌, length, Option, Some, None, Ok, Err, IfOk, IfSome, refl, sym, subst, ap, ◌∙◌, append_assoc, arith}
+use Rattle.std.specs.Prelude.{unsigned_abs, is_some, slice_index, slice_range}
 use Rattle.std.specs.Char.{is_ascii_alphabetic}
 use Rattle.std.specs.List.{AllByRecursion}
 use Rattle.sq_lex.specs.declared.class.Class.TheVariants as class
@@ -16,23 +15,12 @@ use Rattle.sq_lex.specs.declared.restriction.Head.{Head}
 use Rattle.sq_lex.specs.declared.restriction.Bounds.{Bounds}
 use Rattle.sq_lex.specs.declared.word.Word.{Word}
 use Rattle.sq_lex.specs.declared.word.Word.TheVariants as word
-use Rattle.sq_lex.specs.Bytes.{Text, past, digits_value, is_blank}
-use Rattle.sq_lex.specs.Outcome.{Outcome, refused, ◌>>=◌, ◌>>◌, or_refused}
-use Rattle.sq_lex.specs.Kql.{Taken, lexeme, one, blank, cut, past_cut, judged, free, quoted, phrase, ends_idle, sign_lexemes, signs, number, near_digits, near_list, near_kind, near, constant_boost, parameters, xrank, relation_at, head_at, head, value, dots_from, word_value, range, word_bounds, phrase_bounds, one_bound, is_has, all_bounds, judged_upper, past_upper, restriction, items, is_restriction, is_false, is_tokenless, has_bad_item, free_items, word_list, words, word_of, plain, word_by, whole_word, taken, lexemes_from, lexemes_of}
+use Rattle.sq_lex.specs.Bytes.{Text, past, is_blank}
+use Rattle.sq_lex.specs.Outcome.{Outcome, refused, ◌>>◌, or_refused}
+use Rattle.sq_lex.specs.Kql.{Taken, lexeme, one, blank, cut, past_cut, judged, free, quoted, phrase, ends_idle, sign_lexemes, signs, number, near_digits, near_list, near_kind, near, constant_boost, max_boost, parameters, xrank, relation_at, head_at, head, value, dots_from, word_value, range, word_bounds, phrase_bounds, one_bound, is_has, all_bounds, judged_upper, past_upper, restriction, items, is_restriction, is_false, is_tokenless, has_bad_item, free_items, word_list, words, word_of, plain, word_by, whole_word, taken, lexemes_from, lexemes_of}
+use Rattle.sq_lex.proofs.OutcomeLemmas.{if_bind, if_test, if_ok, or_some}
+use Rattle.sq_lex.proofs.ItemLemmas.{number_within, byte_within, AreListedParameters, parameters_good, constant_within, AreListedItems, items_good}
 use Rattle.sq_lex.specs.Shape.{is_single, IsFree, AreListed, nothing, single, list, is_range, IsStarless, IsSound, IsSoundLexeme}
-
--- ---- outcomes
-
-if_bind : {A B : Type 0} (o : Outcome A) (f : A → Outcome B) (P : B → Type 0) → ((a : A) → o ≡ Ok a → IfOk (f a) P) → IfOk (o >>= f) P
-if_bind (Ok a) f P h = h a refl
-if_bind (Err e) f P h = tt
-
-if_test : {A : Type 0} (t : Bool) (a b : Outcome A) (P : A → Type 0) → (t ≡ true → IfOk a P) → (t ≡ false → IfOk b P) → IfOk (if t then a else b) P
-if_test true a b P holds fails = holds refl
-if_test false a b P holds fails = fails refl
-
-if_ok : {A : Type 0} (o : Outcome A) (a : A) (P : A → Type 0) → o ≡ Ok a → IfOk o P → P a
-if_ok {A} o a P is h = let Of : Outcome A → Type 0 = λ r. IfOk r P in subst Of is h
 
 -- ---- lexemes
 
@@ -50,7 +38,7 @@ listed_append _ (list x y items xs is free end rest) ys more =
     let Of : List KLexeme → Type 0 = λ l. AreListed (x ∷ l) in
     subst Of (sym (append_assoc items (y ∷ xs) ys)) (list x y items (xs ++ ys) is free end (listed_append xs rest ys more))
 
-each_append : {X : Type 0} (P : X → Type 0) (xs ys : List X) → AllByRecursion P xs → AllByRecursion P ys → AllByRecursion P (xs ++ ys)
+pub each_append : {X : Type 0} (P : X → Type 0) (xs ys : List X) → AllByRecursion P xs → AllByRecursion P ys → AllByRecursion P (xs ++ ys)
 each_append P [] ys a b = b
 each_append P (x ∷ xs) ys a b = (a.0, each_append P xs ys a.1 b)
 
@@ -95,23 +83,6 @@ signs_sound z at = signs_by z (ends_idle z (past class.Sign z at)) at (past clas
 
 -- ---- NEAR and ONEAR
 
-within_limit : (t : Bool) (value limit n : ℕ) → t ≡ nat_le value limit → (if t then Some value else None) ≡ Some n → n ≤ limit
-within_limit true value limit n is h = let same : value ≡ n = cc in let below : value ≤ limit = grind (arith, nat_tests) in omega (arith, same, below)
-within_limit false value limit n is h = absurd cc
-
-number_by : (a b : Bool) (value limit n : ℕ) → (if a && (b && nat_le value limit) then Some value else None) ≡ Some n → n ≤ limit
-number_by true true value limit n h = within_limit (nat_le value limit) value limit n refl h
-number_by true false value limit n h = absurd cc
-number_by false b value limit n h = absurd cc
-
-number_within : (z : Text) (from to limit n : ℕ) → number z from to limit ≡ Some n → n ≤ limit
-unfolding number
-number_within z from to limit n h = number_by (nat_lt from to) (past class.Digit z from == to) (digits_value (slice_range z from to)) limit n h
-
-or_some : {A : Type 0} (o : Option A) (code at : ℕ) (a : A) → or_refused o code at ≡ Ok a → o ≡ Some a
-or_some (Some x) code at a h = cc
-or_some None code at a h = absurd cc
-
 near_kind_sound : (z : Text) (ordered : Bool) (n from to : ℕ) → n ≤ 1000 → AreSound z (lexeme (near_kind ordered n) from to ∷ [])
 near_kind_sound z true n from to within = one_sound z (kind.Onear n) from to refl within
 near_kind_sound z false n from to within = one_sound z (kind.Near n) from to refl within
@@ -137,8 +108,12 @@ near_sound z ordered at to =
 xrank_sound : (z : Text) (at to : ℕ) → IfOk (xrank z at to) (IsTaken z)
 unfolding xrank
 xrank_sound z at to =
-    if_test (slice_index z (past class.Blank z to) == 40) _ _ (IsTaken z)
-    (λ yes. if_bind (parameters z at (past class.Blank z to + 1)) _ (IsTaken z) (λ l is. if_bind (constant_boost at l.0) _ (IsTaken z) (λ cb good. one_sound z (kind.Xrank cb) at (l.1 + 1) refl tt)))
+    let open_at = past class.Blank z to in
+    if_test (slice_index z open_at == 40) _ _ (IsTaken z)
+    (λ yes. if_bind (parameters z at (open_at + 1)) _ (IsTaken z) (λ l is. if_bind (constant_boost at l.0) _ (IsTaken z) (λ cb good.
+    let inside : open_at < length z = byte_within z open_at 40 (omega arith) yes in
+    let all = if_ok (parameters z at (open_at + 1)) l (λ p. AreListedParameters z (open_at + 1) p.1 p.0) is (parameters_good z at (open_at + 1) (omega (arith, inside))) in
+    one_sound z (kind.Xrank cb) at (l.1 + 1) refl (if_ok (constant_boost at l.0) cb (λ n. unsigned_abs n ≤ max_boost) good (constant_within at l.0 all.good)))))
     (λ no. tt)
 
 -- ---- restrictions
@@ -221,26 +196,31 @@ items_sound z (c ∷ cs) good =
     let more = if_ok (free_items z cs) rest (AreItems z (length cs)) read (items_sound z cs both.1) in
     record { size = ap suc more.size; free_ones = ((c, refl), more.free_ones); sound = (token_of z c has is one_of.1, more.sound) }))
 
-list_sound : (z : Text) (at from close count : ℕ) (front : List KLexeme) → AreItems z count front
+list_sound : (z : Text) (at from close count : ℕ) (front : List KLexeme) → AreItems z count front → 1 ≤ count
     → AreSound z (lexeme (kind.Words count) at from ∷ (front ++ lexeme kind.WordsEnd close (close + 1) ∷ []))
-list_sound z at from close count front i =
+list_sound z at from close count front i some =
     let end = lexeme kind.WordsEnd close (close + 1) in
     record {
       listed = list (lexeme (kind.Words count) at from) end front [] (ap kind.Words (sym i.size)) i.free_ones refl nothing;
-      sound = (tt, each_append (IsSoundLexeme z) front (end ∷ []) i.sound (tt, tt));
+      sound = (some, each_append (IsSoundLexeme z) front (end ∷ []) i.sound (tt, tt));
     }
 
-word_list_sound : (z : Text) (at from : ℕ) → IfOk (word_list z at from) (IsTaken z)
+word_list_sound : (z : Text) (at from : ℕ) → from ≤ length z → IfOk (word_list z at from) (IsTaken z)
 unfolding word_list
-word_list_sound z at from =
+word_list_sound z at from within =
     if_bind (items z at from) _ (IsTaken z) (λ l is. if_bind (if has_bad_item z l.0 then refused BAD_WORDS at else free_items z l.0) _ (IsTaken z) (λ front read.
     list_sound z at from l.1 (length l.0) front
     (if_ok (if has_bad_item z l.0 then refused BAD_WORDS at else free_items z l.0) front (AreItems z (length l.0)) read
-    (if_test (has_bad_item z l.0) (refused BAD_WORDS at) (free_items z l.0) (AreItems z (length l.0)) (λ bad. tt) (λ good. items_sound z l.0 good)))))
+    (if_test (has_bad_item z l.0) (refused BAD_WORDS at) (free_items z l.0) (AreItems z (length l.0)) (λ bad. tt) (λ good. items_sound z l.0 good)))
+    (if_ok (items z at from) l (λ p. AreListedItems z from p.1 p.0) is (items_good z at from within)).some))
 
 words_sound : (z : Text) (at to : ℕ) → IfOk (words z at to) (IsTaken z)
 unfolding words
-words_sound z at to = if_test (slice_index z (past class.Blank z to) == 40) _ _ (IsTaken z) (λ yes. word_list_sound z at (past class.Blank z to + 1)) (λ other. tt)
+words_sound z at to =
+    let open_at = past class.Blank z to in
+    if_test (slice_index z open_at == 40) _ _ (IsTaken z)
+    (λ yes. let inside : open_at < length z = byte_within z open_at 40 (omega arith) yes in word_list_sound z at (open_at + 1) (omega (arith, inside)))
+    (λ other. tt)
 
 -- ---- words
 

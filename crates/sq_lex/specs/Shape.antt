@@ -1,5 +1,5 @@
 -- How lexemes follow one another, and what each is.
-use Rattle.std.specs.Prelude.{◌≡◌, ◌≤◌, Bool, true, false, List, [], ◌∷◌, ◌++◌, length, is_some, Ok, IfSome}
+use Rattle.std.specs.Prelude.{◌≡◌, ◌≤◌, unsigned_abs, Bool, true, false, List, [], ◌∷◌, ◌++◌, length, is_some, Ok, IfSome}
 use Rattle.std.specs.List.{AllByRecursion}
 use Rattle.sq_lex.specs.declared.lexeme.Cut.{Cut}
 use Rattle.sq_lex.specs.declared.lexeme.Relation.{Relation}
@@ -8,7 +8,7 @@ use Rattle.sq_lex.specs.declared.lexeme.KKind.{KKind}
 use Rattle.sq_lex.specs.declared.lexeme.KKind.TheVariants as kind
 use Rattle.sq_lex.specs.declared.lexeme.KLexeme.{KLexeme}
 use Rattle.sq_lex.specs.Bytes.{Text}
-use Rattle.sq_lex.specs.Kql.{judged, lexemes_of}
+use Rattle.sq_lex.specs.Kql.{judged, max_boost, lexemes_of}
 
 -- neither the beginning nor the end of a WORDS list
 abbrev pub is_single : KKind → Bool
@@ -34,12 +34,15 @@ is_range _ = false
 abbrev pub IsStarless : Text → Cut → Type 0
 IsStarless z c = (has : Bool) × (judged z c ≡ Ok has)
 
--- Free text has a token, no piece has a bad star, a range and no other relation has an upper value, and numbers are within their limits.
+-- Free text has a token, no piece has a bad star, a range and no other relation has an upper value, a WORDS list has an item, and numbers are within their
+-- limits.
 abbrev pub IsSound : Text → KKind → Type 0
 IsSound z (kind.Free c) = judged z c ≡ Ok true
 IsSound z (kind.Restrict name_to rel c upper) = IsStarless z c × IfSome upper (IsStarless z) × (is_some upper ≡ is_range rel)
 IsSound z (kind.Near n) = n ≤ 1000
 IsSound z (kind.Onear n) = n ≤ 1000
+IsSound z (kind.Words count) = 1 ≤ count
+IsSound z (kind.Xrank cb) = unsigned_abs cb ≤ max_boost
 IsSound z _ = Unit {0}
 
 abbrev pub IsSoundLexeme : Text → KLexeme → Type 0

@@ -32,7 +32,7 @@ pub same_is : (n : ℤ) → is_same n n ≡ true
 same_is n = both _ _ (int_le-true n n (omega (arith, ints))) (int_le-true n n (omega (arith, ints)))
 
 pub boost_is : (cb : ℤ) → unsigned_abs cb ≤ 1_000_000 → is_boost cb ≡ true
-boost_is cb h = from_to_is _ _ cb (omega (arith, ints)) (omega (arith, ints))
+boost_is cb h = from_to_is (neg_ℤ (pos 1_000_000)) (pos 1_000_000) cb (omega (arith, ints)) (omega (arith, ints))
 
 -- ---- numbers
 
@@ -52,13 +52,13 @@ FitsInteger r = IfOk r (λ n. is_integer_value n ≡ true)
 down : (size : ℕ) (b : Bool) → nat_le size (2 ^ 63) ≡ b → FitsInteger (if b then Ok (neg_ℤ (pos size)) else Err Range)
 down size true e =
     let bound : size ≤ 9_223_372_036_854_775_808 = grind (arith, nat_tests) in
-    from_to_is _ _ (neg_ℤ (pos size)) (omega (arith, ints)) (omega (arith, ints))
+    from_to_is (neg_ℤ (pos 9_223_372_036_854_775_808)) (pos 9_223_372_036_854_775_807) (neg_ℤ (pos size)) (omega (arith, ints)) (omega (arith, ints))
 down size false e = tt
 
 up : (size : ℕ) (b : Bool) → nat_lt size (2 ^ 63) ≡ b → FitsInteger (if b then Ok (pos size) else Err Range)
 up size true e =
     let bound : size < 9_223_372_036_854_775_808 = grind (arith, nat_tests) in
-    from_to_is _ _ (pos size) (omega (arith, ints)) (omega (arith, ints))
+    from_to_is (neg_ℤ (pos 9_223_372_036_854_775_808)) (pos 9_223_372_036_854_775_807) (pos size) (omega (arith, ints)) (omega (arith, ints))
 up size false e = tt
 
 signed_fits : (negative : Bool) (size : ℕ) → FitsInteger (signed_64 negative size)

@@ -1,0 +1,6 @@
+pub mod Canon
+pub mod Number
+pub mod Operators
+pub mod Parameters
+pub mod Read
+pub mod WellFormed

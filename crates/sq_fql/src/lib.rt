@@ -1,0 +1,22 @@
+//! The trees of texts of the FAST Query Language.
+#![tactic(auto)]
+
+mod codes;
+mod content;
+mod fault;
+mod look;
+mod number;
+mod operator;
+mod parameter;
+mod print;
+mod raw;
+mod read;
+
+pub use print::print_fql;
+pub use raw::{FPiece, FRaw, Mode, Op};
+pub use read::read_fql;
+
+#[cfg(test)]
+mod print_tests;
+#[cfg(test)]
+mod tests;
