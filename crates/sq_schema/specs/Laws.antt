@@ -4,7 +4,7 @@ use Rattle.std.specs.Fmt.{signed_decimal}
 use Rattle.std.specs.Int.{w64}
 use Rattle.sq_schema.specs.declared.property.Property.{Property}
 use Rattle.sq_schema.specs.Dates.{interval_of}
-use Rattle.sq_schema.specs.Intervals.{single}
+use Rattle.sq_schema.specs.Intervals.{single, clamped, moment_interval}
 use Rattle.sq_schema.specs.Moments.{IsMoment, IsMomentText, IsInYears}
 use Rattle.sq_schema.specs.Properties.{IsSchema, has_name}
 use Rattle.sq_schema.specs.Values.{number_of}
@@ -24,3 +24,7 @@ MomentsReadBack = (moment : ℤ) (text : List ℕ) → IsMoment moment → IsMom
 -- the interval of a date text lies in the years 0001 to 9999
 abbrev pub DatesLieInYears : Type 0
 DatesLieInYears = (text : List ℕ) → IfSome (interval_of text) IsInYears
+
+-- so does that of a name about a moment that a service knows
+abbrev pub NamesLieInYears : Type 0
+NamesLieInYears = (name : List ℕ) (moment : ℤ) → moment ≡ clamped moment → IfSome (moment_interval name moment) IsInYears

@@ -20,3 +20,8 @@ pub fn numbers_read_back()
 pub fn dates_lie_in_years()
     ensures { spec.DatesLieInYears }
 {}
+
+/// The interval that a name means about a clamped moment lies in the years 0001 to 9999.
+pub fn names_lie_in_years()
+    ensures { spec.NamesLieInYears }
+{}

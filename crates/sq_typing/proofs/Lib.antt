@@ -14,3 +14,4 @@ pub mod SpanLemmas
 mod SumLemmas
 mod SummedLemmas
 pub mod TogetherLemmas
+mod ValueLemmas

@@ -4,6 +4,7 @@ ghost use Rattle.std.specs.Prelude.{◌≡◌, true, All, map, IfOk};
 ghost use Rattle.sq_lex.specs.Outcome.{Gives};
 ghost use Rattle.sq_schema.specs.Intervals.{clamped};
 ghost use Rattle.sq_kql.specs.WellFormed.{IsWellFormed};
+ghost use Rattle.sq_model.specs.KqlSound.{IsSound};
 ghost use Rattle.sq_typing.specs.Formed.{IsFormed};
 ghost use Rattle.sq_typing.specs.Forms.{is_filled};
 ghost use Rattle.sq_typing.specs.Kql as spec;
@@ -19,7 +20,7 @@ use crate::together::{pushed, refused};
 use sq_base::{Fault, List, QueryFault};
 use sq_kql::{KRaw, KRawOperand, RawSign};
 use sq_model::{KOperand, KTree, Sign};
-use sq_schema::Schema;
+use sq_schema::{Schema, dates_lie_in_years, names_lie_in_years};
 use std::alloc::{AllocError, Global};
 
 /// An outermost proximity expression, if it has not too many copies.
@@ -189,7 +190,10 @@ pub fn type_kql(
     requires now { now ≡ clamped now }
     requires formed { IsWellFormed tree.now }
     ensures typed { Gives (λ tree. tree) result (spec.typed schema.now now tree.now) }
+    ensures sound { IfOk result (IsSound schema.now) }
 {
+    dates_lie_in_years();
+    names_lie_in_years();
     let outcome = typed(alloc, schema, now, tree)?;
     let tree = outcome?;
     Ok(tree)
