@@ -32,11 +32,11 @@ pub leads_then : (before middle after : Before) (a b : List ℕ) → Leads befor
 leads_then before middle after a b first second = record {
   lines = first.lines + second.lines;
   reads = λ number rest.
-    let sum : (number + first.lines) + second.lines ≡ number + (first.lines + second.lines) = omega arith in
-    ap (λ t. corpus_from number before (lines_of t)) (append_assoc a b rest)
-    ∙ first.reads number (b ++ rest)
-    ∙ second.reads (number + first.lines) rest
-    ∙ ap (λ n. corpus_from n after (lines_of rest)) sum;
+      let sum : (number + first.lines) + second.lines ≡ number + (first.lines + second.lines) = omega arith in
+      ap (λ t. corpus_from number before (lines_of t)) (append_assoc a b rest)
+      ∙ first.reads number (b ++ rest)
+      ∙ second.reads (number + first.lines) rest
+      ∙ ap (λ n. corpus_from n after (lines_of rest)) sum;
 }
 
 pub leads_along : (before after : Before) (text other : List ℕ) → other ≡ text → Leads before text after → Leads before other after
@@ -64,14 +64,14 @@ pub leads_line : (before : Before) (word : List ℕ) (fields : List (List ℕ)) 
 leads_line before word fields after plain others taken = record {
   lines = 1;
   reads = λ number rest.
-    let whole : line word fields ++ rest ≡ body word fields ++ 10 ∷ rest =
-        ap (λ t. t ++ rest) (line_body word fields) ∙ append_assoc (body word fields) (10 ∷ []) rest in
-    let cut : lines_of (body word fields ++ 10 ∷ rest) ≡ body word fields ∷ lines_of rest =
-        pieces_front 10 (body word fields) rest (line_ends (body word fields) (spelt_body word fields plain others)) in
-    ap (λ t. corpus_from number before (lines_of t)) whole
-    ∙ ap (corpus_from number before) cut
-    ∙ from_cons number before (body word fields) (lines_of rest) (begins_pieces 10 rest)
-    ∙ ap (after_line number (lines_of rest)) (read_line before word fields plain others ∙ taken);
+      let whole : line word fields ++ rest ≡ body word fields ++ 10 ∷ rest =
+      ap (λ t. t ++ rest) (line_body word fields) ∙ append_assoc (body word fields) (10 ∷ []) rest in
+      let cut : lines_of (body word fields ++ 10 ∷ rest) ≡ body word fields ∷ lines_of rest =
+      pieces_front 10 (body word fields) rest (line_ends (body word fields) (spelt_body word fields plain others)) in
+      ap (λ t. corpus_from number before (lines_of t)) whole
+      ∙ ap (corpus_from number before) cut
+      ∙ from_cons number before (body word fields) (lines_of rest) (begins_pieces 10 rest)
+      ∙ ap (after_line number (lines_of rest)) (read_line before word fields plain others ∙ taken);
 }
 
 -- a word of visible ASCII characters, which a test finds

@@ -50,7 +50,7 @@ none_outside values p at (row ∷ rows) outside =
 kept_inside : (values : List Value) (p at : ℕ) (rows : List Property) → at ≤ p → p < at + length rows
     → filter (is_at p) (values_from values at rows) ≡ filter (is_at p) values
 kept_inside values p at [] low high = absurd (omega (arith, low, high))
-kept_inside values p at (row ∷ rows) low high = 
+kept_inside values p at (row ∷ rows) low high =
     inside (at == p) refl (λ other. kept_inside values p (at + 1) rows (grind (arith, low, other)) (omega (arith, high)))
   where
     inside : (t : Bool) → (at == p) ≡ t → ((at ≡ p → ⊥) → filter (is_at p) (values_from values (at + 1) rows) ≡ filter (is_at p) values)

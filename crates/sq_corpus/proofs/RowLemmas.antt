@@ -82,11 +82,11 @@ pub good_row : (done : List Property) (row : Property) (rest : List Property) �
 good_row done row rest schema =
     let within : length done < length (done ++ row ∷ rest) = omega (arith, length-append done (row ∷ rest)) in
     let here : slice_get (done ++ row ∷ rest) (length done) ≡ Some row =
-        slice_get-get_or (done ++ row ∷ rest) (length done) row within ∙ ap (λ r. Some r) (get_or-append_seam done row rest row) in
+    slice_get-get_or (done ++ row ∷ rest) (length done) row within ∙ ap (λ r. Some r) (get_or-append_seam done row rest row) in
     let fault : fault_behind done (length done) row ≡ None =
-        sym (ap (λ earlier. option_and_then (fault_behind earlier (length done)) (slice_get (done ++ row ∷ rest) (length done))) (take-append_seam done (row ∷ rest))
-        ∙ ap (λ at. option_and_then (fault_behind done (length done)) at) here)
-        ∙ schema.faultless (length done) within in
+    sym (ap (λ earlier. option_and_then (fault_behind earlier (length done)) (slice_get (done ++ row ∷ rest) (length done))) (take-append_seam done (row ∷ rest))
+    ∙ ap (λ at. option_and_then (fault_behind done (length done)) at) here)
+    ∙ schema.faultless (length done) within in
     let tests = none_at (is_sound row) (list_any (has_name row.name) done) (BadRow (length done)) (Repeated (length done)) fault in
     record { sound = tests.0; free = tests.1; room = omega (arith, within, schema.few) }
 
@@ -233,7 +233,7 @@ callers_lead stage rows done (caller ∷ rest) text opens good different few wri
     let different_so = subst (λ callers. are_different (map name_of callers) ≡ true) (sym regrouped) different in
     let few_so = subst (λ callers. length callers ≤ 10_000) (sym regrouped) few in
     let behind = callers_lead InCallers rows (done ++ caller ∷ []) rest written.1 opens_callers
-        (right_true (is_caller caller) (list_all is_caller rest) good) different_so few_so written.3 in
+    (right_true (is_caller caller) (list_all is_caller rest) good) different_so few_so written.3 in
     let room : length done < 10_000 = omega (arith, few, length-append done (caller ∷ rest)) in
     record {
       last = behind.last;
