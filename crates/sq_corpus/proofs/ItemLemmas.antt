@@ -32,7 +32,7 @@ use Rattle.sq_corpus.proofs.ValidLemmas.{Parts, parts}
 use Rattle.sq_corpus.proofs.SpelledLemmas.{row_name_plain, spelled_plain, spelled_back}
 use Rattle.sq_corpus.proofs.BackLemmas.{Back, content_back, number_back}
 use Rattle.sq_corpus.proofs.LeadLemmas.{Leads, leads_nil, leads_then, leads_along, leads_so, leads_line, word_plain, state}
-use Rattle.sq_corpus.proofs.RowLemmas.{not_le, good_row, sound_name, claims_plain}
+use Rattle.sq_corpus.proofs.RowLemmas.{not_le, good_row, sound_name, claims_plain, chosen, not_true}
 
 -- an item that is being read, with these values so far
 abbrev pub with_values : Item → List Value → Item
@@ -146,16 +146,12 @@ unfolding list_fault
 list_pass claims good =
     let few = by_le (length claims) 64 (left_true (nat_le (length claims) 64) (list_all is_name claims) good) in
     both_pass 607 608 (not (list_all is_name claims)) (nat_lt 64 (length claims))
-    (not_good (list_all is_name claims) (right_true (nat_le (length claims) 64) (list_all is_name claims) good)) (not_more 64 (length claims) few)
+    (not_true (list_all is_name claims) (right_true (nat_le (length claims) 64) (list_all is_name claims) good)) (not_more 64 (length claims) few)
   where
     both_pass : (a b : ℕ) (s t : Bool) → s ≡ false → t ≡ false → cond s (Some a) (cond t (Some b) None) ≡ None
     both_pass a b true t p q = cc
     both_pass a b false true p q = cc
     both_pass a b false false p q = refl
-
-    not_good : (t : Bool) → t ≡ true → not t ≡ false
-    not_good true e = refl
-    not_good false e = cc
 
     not_more : (a b : ℕ) → b ≤ a → nat_lt a b ≡ false
     not_more a b h = grind (arith, nat_tests, h)
@@ -177,10 +173,6 @@ deny_leads rows callers items item claims utf8 good =
     leads_line (state BeforeDeny rows callers items (Some item)) (codes "deny") claims (state InValues rows callers items (Some (denying claims item)))
     (word_plain (codes "deny") refl) (claims_plain claims utf8 (right_true (nat_le (length claims) 64) (list_all is_name claims) good))
     (ap (λ fault. if_faultless fault (state InValues rows callers items (Some (denying claims item)))) (list_pass claims good))
-
-chosen : (t : Bool) (a b : Result Before ℕ) → t ≡ true → cond t a b ≡ a
-chosen true a b e = refl
-chosen false a b e = cc
 
 not_chosen : (t : Bool) (a b : Result Before ℕ) → t ≡ false → cond t a b ≡ b
 not_chosen true a b e = cc

@@ -1,5 +1,5 @@
 -- Where the lines of a written text lead, one after another.
-use Rattle.std.proofs.Common.{◌≡◌, ℕ, ◌+◌, ◌<◌, ◌≤◌, nat_le, nat_lt, Bool, true, false, cond, ◌&&◌, List, [], ◌∷◌, ◌++◌, append_assoc, refl, ap, sym, subst, ◌∙◌, arith, Option, Ok, Err}
+use Rattle.std.proofs.Common.{◌≡◌, ℕ, ◌+◌, ◌<◌, nat_le, nat_lt, Bool, true, false, cond, ◌&&◌, List, [], ◌∷◌, ◌++◌, append_assoc, refl, ap, sym, subst, ◌∙◌, arith, Option, Ok, Err}
 use Rattle.std.specs.List.{AllByRecursion}
 use Rattle.std.proofs.lemmas.Bool.Decides.{nat_tests}
 use Rattle.sq_base.specs.Xml.{is_xml_text}
@@ -16,6 +16,7 @@ use Rattle.sq_corpus.proofs.CleanLemmas.{left_true, right_true}
 use Rattle.sq_corpus.proofs.LineLemmas.{after_line, from_cons, begins_pieces}
 use Rattle.sq_corpus.proofs.PlainLemmas.{in_line, in_field, Plain, spelt_nil, body, line_body, fields_of_body, spelt_body, spelt_utf8, line_xml_text, line_ends, pieces_front}
 use Rattle.sq_corpus.proofs.SpelledLemmas.{cons_visible}
+use Rattle.sq_corpus.proofs.SoundLemmas.{by_le}
 
 -- The text takes what stands before it to this.
 pub record Leads (before : Before) (text : List ℕ) (after : Before) : Type 0 where
@@ -78,9 +79,6 @@ leads_line before word fields after plain others taken = record {
 abbrev pub all_visible : List ℕ → Bool
 all_visible [] = true
 all_visible (c ∷ cs) = nat_le 32 c && nat_lt c 127 && all_visible cs
-
-by_le : (a b : ℕ) → nat_le a b ≡ true → a ≤ b
-by_le a b e = grind (arith, nat_tests, e)
 
 by_lt : (a b : ℕ) → nat_lt a b ≡ true → a < b
 by_lt a b e = grind (arith, nat_tests, e)
