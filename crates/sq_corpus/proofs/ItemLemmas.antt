@@ -32,7 +32,7 @@ use Rattle.sq_corpus.proofs.ValidLemmas.{Parts, parts}
 use Rattle.sq_corpus.proofs.SpelledLemmas.{row_name_plain, spelled_plain, spelled_back}
 use Rattle.sq_corpus.proofs.BackLemmas.{Back, content_back, number_back}
 use Rattle.sq_corpus.proofs.LeadLemmas.{Leads, leads_nil, leads_then, leads_along, leads_so, leads_line, word_plain, state}
-use Rattle.sq_corpus.proofs.RowLemmas.{not_le, good_row, sound_name, claims_plain}
+use Rattle.sq_corpus.proofs.RowLemmas.{not_le, good_row, sound_name, claims_plain, chosen, not_true}
 
 -- an item that is being read, with these values so far
 abbrev pub with_values : Item → List Value → Item
@@ -70,7 +70,7 @@ fits_none earlier values row at none counts =
     let alone = or_cases row.multi (count_of values at) (right_true (nat_le (count_of values at) 1_000) (row.multi || nat_le (count_of values at) 1) counts) in
     record {
       few = omega (arith, none, few);
-      alone = elim alone [ | inl multi ↦ inl multi | inr one ↦ inr (omega (arith, none, one)) ];
+      alone = elim alone [ inl multi ↦ inl multi | inr one ↦ inr (omega (arith, none, one)) ];
     }
 
 one_more : (t : Bool) (k : ℕ) → t ≡ true → k + cond t 1 0 ≡ k + 1
@@ -81,10 +81,10 @@ fits_more : (earlier : List Value) (value : Value) (row : Property) (at more : �
     → Fits (earlier ++ value ∷ []) row at more
 fits_more earlier value row at more is fits =
     let counted : count_of (earlier ++ value ∷ []) at ≡ count_of earlier at + 1 =
-        count_more earlier value at ∙ one_more (value.property == at) (count_of earlier at) is in
+    count_more earlier value at ∙ one_more (value.property == at) (count_of earlier at) is in
     record {
       few = omega (arith, counted, fits.few);
-      alone = elim fits.alone [ | inl multi ↦ inl multi | inr one ↦ inr (omega (arith, counted, one)) ];
+      alone = elim fits.alone [ inl multi ↦ inl multi | inr one ↦ inr (omega (arith, counted, one)) ];
     }
 
 kept_one : (t : Bool) (test : Value → Bool) (value : Value) (others : List Value) → test value ≡ t → list_all test others ≡ true
@@ -122,7 +122,7 @@ none_more : (earlier values : List Value) (at k : ℕ) → at < k → count_of e
 none_more earlier values at k later none =
     let other : filter (is_at k) (filter (is_at at) values) ≡ [] = none_of_other values at k (λ is. omega (arith, later, is)) in
     let sum : count_of (earlier ++ filter (is_at at) values) k ≡ count_of earlier k + length (filter (is_at k) (filter (is_at at) values)) =
-        ap length (filter-append (is_at k) earlier (filter (is_at at) values)) ∙ length-append (filter (is_at k) earlier) (filter (is_at k) (filter (is_at at) values)) in
+    ap length (filter-append (is_at k) earlier (filter (is_at at) values)) ∙ length-append (filter (is_at k) earlier) (filter (is_at k) (filter (is_at at) values)) in
     omega (arith, sum, none, ap length other)
 
 slice_seam : (front : List Property) (row : Property) (left : List Property) → slice_get (front ++ row ∷ left) (length front) ≡ Some row
@@ -146,16 +146,12 @@ unfolding list_fault
 list_pass claims good =
     let few = by_le (length claims) 64 (left_true (nat_le (length claims) 64) (list_all is_name claims) good) in
     both_pass 607 608 (not (list_all is_name claims)) (nat_lt 64 (length claims))
-    (not_good (list_all is_name claims) (right_true (nat_le (length claims) 64) (list_all is_name claims) good)) (not_more 64 (length claims) few)
+    (not_true (list_all is_name claims) (right_true (nat_le (length claims) 64) (list_all is_name claims) good)) (not_more 64 (length claims) few)
   where
     both_pass : (a b : ℕ) (s t : Bool) → s ≡ false → t ≡ false → cond s (Some a) (cond t (Some b) None) ≡ None
     both_pass a b true t p q = cc
     both_pass a b false true p q = cc
     both_pass a b false false p q = refl
-
-    not_good : (t : Bool) → t ≡ true → not t ≡ false
-    not_good true e = refl
-    not_good false e = cc
 
     not_more : (a b : ℕ) → b ≤ a → nat_lt a b ≡ false
     not_more a b h = grind (arith, nat_tests, h)
@@ -177,10 +173,6 @@ deny_leads rows callers items item claims utf8 good =
     leads_line (state BeforeDeny rows callers items (Some item)) (codes "deny") claims (state InValues rows callers items (Some (denying claims item)))
     (word_plain (codes "deny") refl) (claims_plain claims utf8 (right_true (nat_le (length claims) 64) (list_all is_name claims) good))
     (ap (λ fault. if_faultless fault (state InValues rows callers items (Some (denying claims item)))) (list_pass claims good))
-
-chosen : (t : Bool) (a b : Result Before ℕ) → t ≡ true → cond t a b ≡ a
-chosen true a b e = refl
-chosen false a b e = cc
 
 not_chosen : (t : Bool) (a b : Result Before ℕ) → t ≡ false → cond t a b ≡ b
 not_chosen true a b e = cc
@@ -246,7 +238,7 @@ module _ (names : NamesFindRows) (numbers : NumbersReadBack) (moments : MomentsR
       let first : (value.property == at) ≡ true = left_true (is_at at value) (list_all (is_at at) values) of in
       let place : value.property ≡ at = grind (arith, nat_tests, first) in
       let kind : has_kind row.kind value.content ≡ true =
-          kind_of_row row value (ap (slice_get rows) place ∙ here) (left_true (is_value rows value) (list_all (is_value rows) values) good) in
+      kind_of_row row value (ap (slice_get rows) place ∙ here) (left_true (is_value rows value) (list_all (is_value rows) values) good) in
       let regrouped : (item.values ++ value ∷ []) ++ values ≡ item.values ++ value ∷ values = append_assoc item.values (value ∷ []) values in
       let start : Before = reading rows callers items item in
       let middle : Before = reading rows callers items (holding value item) in
@@ -274,7 +266,7 @@ module _ (names : NamesFindRows) (numbers : NumbersReadBack) (moments : MomentsR
   rows_values_lead items item values front (row ∷ left) at text whole place none few good written =
       let those : List Value = filter (is_at at) values in
       let here : slice_get rows at ≡ Some row =
-          ap (slice_get rows) (sym place) ∙ ap (λ all. slice_get all (length front)) whole ∙ slice_seam front row left in
+      ap (slice_get rows) (sym place) ∙ ap (λ all. slice_get all (length front)) whole ∙ slice_seam front row left in
       let P : List Property → Type 0 = λ all. IsSchema all in
       let sound = (good_row front row left (subst P whole schema)).sound in
       let counts = left_true (nat_le (count_of values at) 1_000 && (row.multi || nat_le (count_of values at) 1)) (has_few values (at + 1) left) few in
@@ -302,15 +294,15 @@ module _ (names : NamesFindRows) (numbers : NumbersReadBack) (moments : MomentsR
       let before : Before = state stage rows callers items last in
       let after : Before = state BeforeAllow rows callers (items ++ option_to_list last) (Some (item_of item.number item.rank item.url)) in
       let number = number_back numbers moments (pos 1) (pos 4_294_967_294) (pos item.number) (grind (arith, ints)) (grind (arith, ints))
-          (number_range item.number good.low good.high) in
+      (number_range item.number good.low good.high) in
       let rank = number_back numbers moments (neg_ℤ (pos 1_000_000_000)) (pos 1_000_000_000) item.rank (grind (arith, ints)) (grind (arith, ints)) good.rank in
       let xml : is_xml_text item.url ≡ true = left_true (is_xml_text item.url) (nat_lt (length item.url) 67_108_864) good.url in
       let is_number : item_number (signed_decimal (pos item.number)) ≡ Some item.number =
-          ap (λ o. option_map unsigned_abs (number_from_to (pos 1) (pos 4_294_967_294) o)) number.1
-          ∙ ap (option_map unsigned_abs) (from_to_pass (pos 1) (pos 4_294_967_294) (pos item.number) true (number_range item.number good.low good.high) refl) in
+      ap (λ o. option_map unsigned_abs (number_from_to (pos 1) (pos 4_294_967_294) o)) number.1
+      ∙ ap (option_map unsigned_abs) (from_to_pass (pos 1) (pos 4_294_967_294) (pos item.number) true (number_range item.number good.low good.high) refl) in
       let is_rank : rank_of (signed_decimal item.rank) ≡ Some item.rank =
-          ap (number_from_to (neg_ℤ (pos 1_000_000_000)) (pos 1_000_000_000)) rank.1
-          ∙ from_to_pass (neg_ℤ (pos 1_000_000_000)) (pos 1_000_000_000) item.rank true good.rank refl in
+      ap (number_from_to (neg_ℤ (pos 1_000_000_000)) (pos 1_000_000_000)) rank.1
+      ∙ from_to_pass (neg_ℤ (pos 1_000_000_000)) (pos 1_000_000_000) item.rank true good.rank refl in
       leads_line before (codes "item") (signed_decimal (pos item.number) ∷ (signed_decimal item.rank ∷ (spelled item.url ∷ []))) after
       (word_plain (codes "item") refl) (number.0, (rank.0, (spelled_plain item.url utf8 xml, tt)))
       (chosen (may_stand stage ItemHead)
@@ -371,7 +363,7 @@ module _ (names : NamesFindRows) (numbers : NumbersReadBack) (moments : MomentsR
       let more : length (done ++ one ∷ []) ≡ length done + 1 = length-append done (one ∷ []) in
       let room : length done < 1_000_000 = omega (arith, few) in
       let behind = items_lead InValues done (Some one) rest written.1 refl refl (right_true (is_item rows item) (list_all (is_item rows) rest) good)
-          (rise_on last item rest rising) (omega (arith, few, more)) written.3 in
+      (rise_on last item rest rising) (omega (arith, few, more)) written.3 in
       let start : Before = state stage rows callers items last in
       let after : Before = state behind.stage_then rows callers behind.items_then behind.last_then in
       record {

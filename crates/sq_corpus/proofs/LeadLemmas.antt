@@ -1,5 +1,5 @@
 -- Where the lines of a written text lead, one after another.
-use Rattle.std.proofs.Common.{◌≡◌, ℕ, ◌+◌, ◌<◌, ◌≤◌, nat_le, nat_lt, Bool, true, false, cond, ◌&&◌, List, [], ◌∷◌, ◌++◌, append_assoc, refl, ap, sym, subst, ◌∙◌, arith, Option, Ok, Err}
+use Rattle.std.proofs.Common.{◌≡◌, ℕ, ◌+◌, ◌<◌, nat_le, nat_lt, Bool, true, false, cond, ◌&&◌, List, [], ◌∷◌, ◌++◌, append_assoc, refl, ap, sym, subst, ◌∙◌, arith, Option, Ok, Err}
 use Rattle.std.specs.List.{AllByRecursion}
 use Rattle.std.proofs.lemmas.Bool.Decides.{nat_tests}
 use Rattle.sq_base.specs.Xml.{is_xml_text}
@@ -16,6 +16,7 @@ use Rattle.sq_corpus.proofs.CleanLemmas.{left_true, right_true}
 use Rattle.sq_corpus.proofs.LineLemmas.{after_line, from_cons, begins_pieces}
 use Rattle.sq_corpus.proofs.PlainLemmas.{in_line, in_field, Plain, spelt_nil, body, line_body, fields_of_body, spelt_body, spelt_utf8, line_xml_text, line_ends, pieces_front}
 use Rattle.sq_corpus.proofs.SpelledLemmas.{cons_visible}
+use Rattle.sq_corpus.proofs.SoundLemmas.{by_le}
 
 -- The text takes what stands before it to this.
 pub record Leads (before : Before) (text : List ℕ) (after : Before) : Type 0 where
@@ -32,11 +33,11 @@ pub leads_then : (before middle after : Before) (a b : List ℕ) → Leads befor
 leads_then before middle after a b first second = record {
   lines = first.lines + second.lines;
   reads = λ number rest.
-    let sum : (number + first.lines) + second.lines ≡ number + (first.lines + second.lines) = omega arith in
-    ap (λ t. corpus_from number before (lines_of t)) (append_assoc a b rest)
-    ∙ first.reads number (b ++ rest)
-    ∙ second.reads (number + first.lines) rest
-    ∙ ap (λ n. corpus_from n after (lines_of rest)) sum;
+      let sum : (number + first.lines) + second.lines ≡ number + (first.lines + second.lines) = omega arith in
+      ap (λ t. corpus_from number before (lines_of t)) (append_assoc a b rest)
+      ∙ first.reads number (b ++ rest)
+      ∙ second.reads (number + first.lines) rest
+      ∙ ap (λ n. corpus_from n after (lines_of rest)) sum;
 }
 
 pub leads_along : (before after : Before) (text other : List ℕ) → other ≡ text → Leads before text after → Leads before other after
@@ -64,23 +65,20 @@ pub leads_line : (before : Before) (word : List ℕ) (fields : List (List ℕ)) 
 leads_line before word fields after plain others taken = record {
   lines = 1;
   reads = λ number rest.
-    let whole : line word fields ++ rest ≡ body word fields ++ 10 ∷ rest =
-        ap (λ t. t ++ rest) (line_body word fields) ∙ append_assoc (body word fields) (10 ∷ []) rest in
-    let cut : lines_of (body word fields ++ 10 ∷ rest) ≡ body word fields ∷ lines_of rest =
-        pieces_front 10 (body word fields) rest (line_ends (body word fields) (spelt_body word fields plain others)) in
-    ap (λ t. corpus_from number before (lines_of t)) whole
-    ∙ ap (corpus_from number before) cut
-    ∙ from_cons number before (body word fields) (lines_of rest) (begins_pieces 10 rest)
-    ∙ ap (after_line number (lines_of rest)) (read_line before word fields plain others ∙ taken);
+      let whole : line word fields ++ rest ≡ body word fields ++ 10 ∷ rest =
+      ap (λ t. t ++ rest) (line_body word fields) ∙ append_assoc (body word fields) (10 ∷ []) rest in
+      let cut : lines_of (body word fields ++ 10 ∷ rest) ≡ body word fields ∷ lines_of rest =
+      pieces_front 10 (body word fields) rest (line_ends (body word fields) (spelt_body word fields plain others)) in
+      ap (λ t. corpus_from number before (lines_of t)) whole
+      ∙ ap (corpus_from number before) cut
+      ∙ from_cons number before (body word fields) (lines_of rest) (begins_pieces 10 rest)
+      ∙ ap (after_line number (lines_of rest)) (read_line before word fields plain others ∙ taken);
 }
 
 -- a word of visible ASCII characters, which a test finds
 abbrev pub all_visible : List ℕ → Bool
 all_visible [] = true
 all_visible (c ∷ cs) = nat_le 32 c && nat_lt c 127 && all_visible cs
-
-by_le : (a b : ℕ) → nat_le a b ≡ true → a ≤ b
-by_le a b e = grind (arith, nat_tests, e)
 
 by_lt : (a b : ℕ) → nat_lt a b ≡ true → a < b
 by_lt a b e = grind (arith, nat_tests, e)

@@ -13,6 +13,7 @@ use Rattle.sq_corpus.specs.Written.{is_at, values_from}
 use Rattle.sq_corpus.proofs.CleanLemmas.{left_true, right_true}
 use Rattle.sq_corpus.proofs.ItemLemmas.{none_of_other}
 use Rattle.sq_corpus.proofs.ValidLemmas.{parts}
+use Rattle.sq_corpus.proofs.SpelledLemmas.{never}
 
 again_at : (t : Bool) (p : ℕ) (value : Value) (others : List Value) → (value.property == p) ≡ t → filter (is_at p) others ≡ others
     → filter (is_at p) (cond t (value ∷ others) others) ≡ cond t (value ∷ others) others
@@ -50,7 +51,7 @@ none_outside values p at (row ∷ rows) outside =
 kept_inside : (values : List Value) (p at : ℕ) (rows : List Property) → at ≤ p → p < at + length rows
     → filter (is_at p) (values_from values at rows) ≡ filter (is_at p) values
 kept_inside values p at [] low high = absurd (omega (arith, low, high))
-kept_inside values p at (row ∷ rows) low high = 
+kept_inside values p at (row ∷ rows) low high =
     inside (at == p) refl (λ other. kept_inside values p (at + 1) rows (grind (arith, low, other)) (omega (arith, high)))
   where
     inside : (t : Bool) → (at == p) ≡ t → ((at ≡ p → ⊥) → filter (is_at p) (values_from values (at + 1) rows) ≡ filter (is_at p) values)
@@ -71,9 +72,6 @@ kept_inside values p at (row ∷ rows) low high =
 -- no value is of a property past the rows
 bad_at : (o : Option Property) (value : Value) → o ≡ None → is_content_of o value.content ≡ true → ⊥
 bad_at o value none good = let P : Option Property → Type 0 = λ o. is_content_of o value.content ≡ true in never (subst P none good)
-  where
-    never : false ≡ true → ⊥
-    never e = cc
 
 none_past : (rows : List Property) (values : List Value) (p : ℕ) → length rows ≤ p → list_all (is_value rows) values ≡ true → filter (is_at p) values ≡ []
 none_past rows [] p past good = refl

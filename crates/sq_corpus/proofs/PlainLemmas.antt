@@ -29,7 +29,7 @@ pub record Spelt (test : ℕ → Bool) (text : List ℕ) : Type 0 where
 abbrev pub Plain : List ℕ → Type 0
 Plain = Spelt in_field
 
-scalars_append : (cs ds : List ℕ) → all_scalars cs ≡ true → all_scalars ds ≡ true → all_scalars (cs ++ ds) ≡ true
+pub scalars_append : (cs ds : List ℕ) → all_scalars cs ≡ true → all_scalars ds ≡ true → all_scalars (cs ++ ds) ≡ true
 scalars_append [] ds p q = q
 scalars_append (c ∷ cs) ds p q =
     both_true _ _ (left_true (scalar c) (all_scalars cs) p) (scalars_append cs ds (right_true (scalar c) (all_scalars cs) p) q)

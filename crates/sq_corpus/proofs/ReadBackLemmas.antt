@@ -33,7 +33,7 @@ read_back names numbers moments corpus text schema valid written =
     let callers = callers_lead InProperties rows [] corpus.callers written.callers opens_properties valid.callers valid.names valid.few_callers written.are_callers in
     let known : Before = state callers.last rows corpus.callers [] None in
     let items = items_lead names numbers moments rows corpus.callers schema callers.last [] None corpus.items written.items callers.opens.item callers.opens.ends
-        valid.items valid.numbers (omega (arith, valid.few_items)) written.are_items in
+    valid.items valid.numbers (omega (arith, valid.few_items)) written.are_items in
     let after : Before = state items.stage_then rows corpus.callers items.items_then items.last_then in
     whole_text text after
     (leads_along nothing_before after (line (codes "SQCORPUS 1") [] ++ (flat_map property_line rows ++ (written.callers ++ written.items))) text written.written

@@ -25,7 +25,7 @@ use Rattle.sq_corpus.specs.Lines.{may_stand, with_row, with_property, with_calle
 use Rattle.sq_corpus.specs.Words.{line_kind, kind_of, flags_of, flags}
 use Rattle.sq_corpus.specs.Written.{line, property_line, kind_word, flags_word, Each, IsCallerText}
 use Rattle.sq_corpus.proofs.CleanLemmas.{left_true, right_true}
-use Rattle.sq_corpus.proofs.SoundLemmas.{name_of}
+use Rattle.sq_corpus.proofs.SoundLemmas.{name_of, left_false, right_false}
 use Rattle.sq_corpus.proofs.PlainLemmas.{Plain}
 use Rattle.sq_corpus.proofs.SpelledLemmas.{name_plain, row_name_plain}
 use Rattle.sq_corpus.proofs.LeadLemmas.{Leads, leads_nil, leads_then, leads_along, leads_so, leads_line, word_plain, state}
@@ -62,7 +62,7 @@ three_pass a b c false false false x p q r = refl
 pub not_le : (a b : ℕ) → b < a → nat_le a b ≡ false
 not_le a b h = grind (arith, nat_tests, h)
 
-not_true : (t : Bool) → t ≡ true → not t ≡ false
+pub not_true : (t : Bool) → t ≡ true → not t ≡ false
 not_true true e = refl
 not_true false e = cc
 
@@ -82,11 +82,11 @@ pub good_row : (done : List Property) (row : Property) (rest : List Property) �
 good_row done row rest schema =
     let within : length done < length (done ++ row ∷ rest) = omega (arith, length-append done (row ∷ rest)) in
     let here : slice_get (done ++ row ∷ rest) (length done) ≡ Some row =
-        slice_get-get_or (done ++ row ∷ rest) (length done) row within ∙ ap (λ r. Some r) (get_or-append_seam done row rest row) in
+    slice_get-get_or (done ++ row ∷ rest) (length done) row within ∙ ap (λ r. Some r) (get_or-append_seam done row rest row) in
     let fault : fault_behind done (length done) row ≡ None =
-        sym (ap (λ earlier. option_and_then (fault_behind earlier (length done)) (slice_get (done ++ row ∷ rest) (length done))) (take-append_seam done (row ∷ rest))
-        ∙ ap (λ at. option_and_then (fault_behind done (length done)) at) here)
-        ∙ schema.faultless (length done) within in
+    sym (ap (λ earlier. option_and_then (fault_behind earlier (length done)) (slice_get (done ++ row ∷ rest) (length done))) (take-append_seam done (row ∷ rest))
+    ∙ ap (λ at. option_and_then (fault_behind done (length done)) at) here)
+    ∙ schema.faultless (length done) within in
     let tests = none_at (is_sound row) (list_any (has_name row.name) done) (BadRow (length done)) (Repeated (length done)) fault in
     record { sound = tests.0; free = tests.1; room = omega (arith, within, schema.few) }
 
@@ -146,23 +146,15 @@ opens_properties = record { caller = refl; item = refl; ends = refl }
 pub opens_callers : Opens InCallers
 opens_callers = record { caller = refl; item = refl; ends = refl }
 
-left_or : (a b : Bool) → (a || b) ≡ false → a ≡ false
-left_or true b p = p
-left_or false b p = refl
-
-right_or : (a b : Bool) → (a || b) ≡ false → b ≡ false
-right_or true b p = cc
-right_or false b p = p
-
 false_of : (t : Bool) → not t ≡ true → t ≡ false
 false_of true e = cc
 false_of false e = refl
 
 absent : (text : List ℕ) (done : List Caller) (caller : Caller) (rest : List Caller)
     → list_any (bytes_eq text) (map name_of (done ++ caller ∷ rest)) ≡ false → bytes_eq text caller.name ≡ false
-absent text [] caller rest e = left_or (bytes_eq text caller.name) (list_any (bytes_eq text) (map name_of rest)) e
+absent text [] caller rest e = left_false (bytes_eq text caller.name) (list_any (bytes_eq text) (map name_of rest)) e
 absent text (c ∷ done) caller rest e =
-    absent text done caller rest (right_or (bytes_eq text c.name) (list_any (bytes_eq text) (map name_of (done ++ caller ∷ rest))) e)
+    absent text done caller rest (right_false (bytes_eq text c.name) (list_any (bytes_eq text) (map name_of (done ++ caller ∷ rest))) e)
 
 new_name : (done : List Caller) (caller : Caller) (rest : List Caller) → are_different (map name_of (done ++ caller ∷ rest)) ≡ true
     → list_any (is_named caller.name) done ≡ false
@@ -187,9 +179,9 @@ claims_plain (claim ∷ claims) utf8 good = (
   claims_plain claims utf8.1 (right_true (is_name claim) (list_all is_name claims) good),
 )
 
-caller_known : (t : Bool) (a b : Result Before ℕ) → t ≡ true → cond t a b ≡ a
-caller_known true a b e = refl
-caller_known false a b e = cc
+pub chosen : (t : Bool) (a b : Result Before ℕ) → t ≡ true → cond t a b ≡ a
+chosen true a b e = refl
+chosen false a b e = cc
 
 caller_taken : (stage : Stage) (rows : List Property) (done : List Caller) (caller : Caller) → is_caller caller ≡ true
     → list_any (is_named caller.name) done ≡ false → length done < 10_000
@@ -209,7 +201,7 @@ caller_leads stage rows done caller text opens good free room written =
     leads_along (state stage rows done [] None) (state InCallers rows (done ++ caller ∷ []) [] None) (line (codes "caller") (caller.name ∷ caller.claims)) text written.2
     (leads_line (state stage rows done [] None) (codes "caller") (caller.name ∷ caller.claims) (state InCallers rows (done ++ caller ∷ []) [] None)
     (word_plain (codes "caller") refl) (name_plain caller.name written.0 name, claims_plain caller.claims written.1 claims)
-    (caller_known (may_stand stage CallerRow) (with_caller (state stage rows done [] None) caller.name caller.claims) (Err 602) opens.caller
+    (chosen (may_stand stage CallerRow) (with_caller (state stage rows done [] None) caller.name caller.claims) (Err 602) opens.caller
     ∙ caller_taken stage rows done caller good free room))
 
 -- where the callers' lines lead
@@ -233,7 +225,7 @@ callers_lead stage rows done (caller ∷ rest) text opens good different few wri
     let different_so = subst (λ callers. are_different (map name_of callers) ≡ true) (sym regrouped) different in
     let few_so = subst (λ callers. length callers ≤ 10_000) (sym regrouped) few in
     let behind = callers_lead InCallers rows (done ++ caller ∷ []) rest written.1 opens_callers
-        (right_true (is_caller caller) (list_all is_caller rest) good) different_so few_so written.3 in
+    (right_true (is_caller caller) (list_all is_caller rest) good) different_so few_so written.3 in
     let room : length done < 10_000 = omega (arith, few, length-append done (caller ∷ rest)) in
     record {
       last = behind.last;

@@ -67,11 +67,11 @@ not_or true b p q = p
 not_or false true p q = sym q
 not_or false false p q = refl
 
-left_false : (a b : Bool) → (a || b) ≡ false → a ≡ false
+pub left_false : (a b : Bool) → (a || b) ≡ false → a ≡ false
 left_false true b p = p
 left_false false b p = refl
 
-right_false : (a b : Bool) → (a || b) ≡ false → b ≡ false
+pub right_false : (a b : Bool) → (a || b) ≡ false → b ≡ false
 right_false true b p = cc
 right_false false b p = p
 

@@ -21,9 +21,9 @@ use Rattle.sq_model.specs.Valid.{is_name}
 use Rattle.sq_corpus.specs.Escapes.{escaped, unescaped, behind_backslash, text_of}
 use Rattle.sq_corpus.specs.Written.{escape, spelled}
 use Rattle.sq_corpus.proofs.CleanLemmas.{both_true, left_true, right_true, apart}
-use Rattle.sq_corpus.proofs.PlainLemmas.{in_field, Plain, spelt_nil, spelt_cons}
+use Rattle.sq_corpus.proofs.PlainLemmas.{in_field, Plain, spelt_nil, spelt_cons, scalars_append}
 
-never : false ≡ true → ⊥
+pub never : false ≡ true → ⊥
 never e = cc
 
 -- Characters that stand as they are.
@@ -108,11 +108,6 @@ record EscapedText (cs : List ℕ) : Type 0 where
   good : list_all in_field (flat_map escape cs) ≡ true
   back : unescaped (flat_map escape cs) ≡ Some cs
 
-scalars_all : (cs ds : List ℕ) → all_scalars cs ≡ true → all_scalars ds ≡ true → all_scalars (cs ++ ds) ≡ true
-scalars_all [] ds p q = q
-scalars_all (c ∷ cs) ds p q =
-    both_true _ _ (left_true (scalar c) (all_scalars cs) p) (scalars_all cs ds (right_true (scalar c) (all_scalars cs) p) q)
-
 escape_all : (cs : List ℕ) → all_scalars cs ≡ true → list_all is_xml_char cs ≡ true → EscapedText cs
 escape_all [] scalars xml = record { scalar = refl; good = refl; back = refl }
 escape_all (c ∷ cs) scalars xml =
@@ -120,7 +115,7 @@ escape_all (c ∷ cs) scalars xml =
     let rest = escape_all cs (right_true (scalar c) (all_scalars cs) scalars) (right_true (is_xml_char c) (list_all is_xml_char cs) xml) in
     let split : flat_map escape (c ∷ cs) ≡ escape c ++ flat_map escape cs = flat_map-cons escape c cs in
     record {
-      scalar = ap all_scalars split ∙ scalars_all (escape c) (flat_map escape cs) one.scalar rest.scalar;
+      scalar = ap all_scalars split ∙ scalars_append (escape c) (flat_map escape cs) one.scalar rest.scalar;
       good = ap (list_all in_field) split ∙ list_all-append in_field (escape c) (flat_map escape cs) ∙ both_true _ _ one.good rest.good;
       back = ap unescaped split ∙ one.back (flat_map escape cs) ∙ ap (option_map (λ text. c ∷ text)) rest.back;
     }

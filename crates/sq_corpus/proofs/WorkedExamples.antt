@@ -1,17 +1,22 @@
 -- Worked examples, by computation.
-use Rattle.std.proofs.Common.{◌≡◌, ℕ, List, [], ◌∷◌, ◌++◌, map, refl, Ok}
+use Rattle.std.proofs.Common.{◌≡◌, ℕ, List, [], ◌∷◌, ◌++◌, map, true, false, refl, Ok, pos}
 use Rattle.std.specs.Prelude.{codes}
 use Rattle.std.specs.Str.{is_utf8, chars}
 use lib.Utf8.{encode}
 use Rattle.sq_base.specs.Xml.{is_xml_char}
+use Rattle.sq_schema.specs.declared.property.Kind.TheVariants.{Integer}
+use Rattle.sq_schema.specs.declared.property.Property.{Property}
 use Rattle.sq_schema.specs.Names.{is_name, is_name_byte}
 use Rattle.sq_schema.specs.Properties.{is_sound, has_name}
 use Rattle.sq_schema.specs.Values.{number_of, is_numeral, behind_minus}
 use Rattle.sq_schema.specs.Words.{is_same_word}
+use Rattle.sq_model.specs.declared.corpus.Content.TheVariants.{Number}
+use Rattle.sq_model.specs.declared.corpus.Value.{Value}
 use Rattle.sq_corpus.specs.CorpusText.{faulty, at_end, corpus_of}
 use Rattle.sq_corpus.specs.Escapes.{escaped}
 use Rattle.sq_corpus.specs.Lines.{with_row, with_property, is_named, with_caller, number_from_to, with_url, with_item, list_fault, with_allow, with_deny, flag_of, content_of, refused_content, with_content, with_value_of, with_value, with_known, with_fields, with_line}
 use Rattle.sq_corpus.specs.Words.{line_kind, kind_of, flags_of}
+use Rattle.sq_corpus.specs.Written.{escape, spelled, property_line, values_from}
 
 -- the line of these fields
 abbrev line : List (List ℕ) → List ℕ
@@ -45,3 +50,20 @@ value_faults : map (λ last. corpus_of (item ++ last)) (line (codes "value" ∷ 
     ≡ faulty 604 8 ∷ faulty 603 8 ∷ faulty 605 9 ∷ faulty 606 8 ∷ []
 unfolding corpus_of at_end with_line with_fields with_known with_property with_row with_caller with_item with_url with_allow with_deny list_fault with_value with_value_of with_content refused_content content_of flag_of is_named number_from_to line_kind kind_of flags_of escaped is_utf8 chars is_xml_char encode is_sound is_name is_name_byte has_name is_same_word number_of is_numeral behind_minus
 value_faults = refl
+
+spellings : map spelled (codes "a\tb" ∷ codes "c\n\r" ∷ codes "\\" ∷ [] ∷ []) ≡ codes "a\\tb" ∷ codes "c\\n\\r" ∷ codes "\\\\" ∷ [] ∷ []
+unfolding escape chars encode
+spellings = refl
+
+abbrev size : Property
+size = record { name = codes "size"; kind = Integer; searchable = false; multi = true; refinable = true }
+
+abbrev value : ℕ → ℕ → Value
+value property n = record { property = property; content = Number (pos n) }
+
+size_line : property_line size ≡ line (codes "property" ∷ codes "size" ∷ codes "integer" ∷ codes "mr" ∷ [])
+size_line = refl
+
+rows_of_values : values_from (value 1 5 ∷ value 0 3 ∷ value 1 4 ∷ value 0 9 ∷ []) 0 (size ∷ size ∷ [])
+    ≡ value 0 3 ∷ value 0 9 ∷ value 1 5 ∷ value 1 4 ∷ []
+rows_of_values = refl

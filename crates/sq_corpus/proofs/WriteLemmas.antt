@@ -1,5 +1,5 @@
 -- How a text grows by what a writer adds.
-use Rattle.std.proofs.Common.{◌≡◌, ℕ, zero, suc, ◌+◌, ◌-◌, ◌<◌, ◌≤◌, take, get_or, Bool, true, false, cond, ◌&&◌, List, [], ◌∷◌, ◌++◌, append_assoc, append-nil, drop, length, filter, refl, ap, sym, subst, ◌∙◌, arith, Option, Some, None, slice_get, chars, encode_utf8, encode_utf8_all, IsUtf8}
+use Rattle.std.proofs.Common.{◌≡◌, ℕ, zero, suc, ◌+◌, ◌-◌, ◌<◌, ◌≤◌, take, get_or, Bool, true, false, cond, List, [], ◌∷◌, ◌++◌, append_assoc, append-nil, drop, length, filter, refl, ap, sym, subst, ◌∙◌, arith, Option, Some, None, slice_get, chars, encode_utf8, encode_utf8_all, IsUtf8}
 use Rattle.std.specs.List.{flat_map, list_all}
 use Rattle.std.proofs.lemmas.Str.{chars_past_char, chars-nil, encodes-append}
 use Rattle.std.proofs.lemmas.List.{take_all, drop_all}
@@ -90,15 +90,11 @@ pub ends-each : {A : Type 0} (Is : A → List ℕ → Type 0) (xs : List A) (Who
 ends-each Is [] Whole before now none kept = ends-with (Each Is []) Whole before now refl kept
 ends-each Is (x ∷ xs) Whole before now none kept = absurd (omega arith)
 
-tail_true : (a b : Bool) → (a && b) ≡ true → b ≡ true
-tail_true true b e = e
-tail_true false b e = cc
-
 pub rest-all : {A : Type 0} (test : A → Bool) (xs : List A) (x : A) → 1 ≤ length xs → x ≡ get_or xs 0 x → list_all test xs ≡ true
     → list_all test (take (length xs - 1) (drop 1 xs)) ≡ true
 rest-all test xs x some is good =
     let P : List _ → Type 0 = λ items. list_all test items ≡ true in
-    tail_true (test x) (list_all test (take (length xs - 1) (drop 1 xs))) (subst P (first-and-rest xs x some is) good)
+    right_true (test x) (list_all test (take (length xs - 1) (drop 1 xs))) (subst P (first-and-rest xs x some is) good)
 
 -- a value of the property comes to the text
 kept-at : (t : Bool) (x : Value) (others : List Value) → t ≡ true → cond t (x ∷ others) others ≡ x ∷ others
