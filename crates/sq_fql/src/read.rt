@@ -373,7 +373,8 @@ fn whole_of(alloc: Global, text: &str, lexemes: &[FLexeme]) -> Result<FRaw, Faul
     }
 }
 
-/// The tree of a text, or its first fault: of its lexemes, and then of their order.
+/// The tree of a text of the FAST Query Language, or its first fault: 201 or 203 of its lexemes, else the first of 202 and
+/// 204 to 212 from left to right, the lower code where one lexeme finds two. A place is a number of bytes from the text's start.
 #[tactic(auto, unfolding(crate::specs::Read::read_of))]
 pub fn read_fql(alloc: Global, text: &str) -> Result<FRaw, Fault>
     ensures value { Gives (λ tree. tree) result (spec.read_of text.now) }
