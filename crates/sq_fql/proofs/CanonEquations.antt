@@ -1,5 +1,5 @@
 -- The canonical text of a tree by its operands as a list, as code meets them.
-use Rattle.std.proofs.Common.{◌≡◌, ℕ, ◌++◌, List, ◌∷◌, map, false, codes, refl, sym, ap, ◌∙◌, append_assoc, append-nil, flat_map, chars, length, IsUtf8, encode_utf8, arith, [], ◌+◌}
+use Rattle.std.proofs.Common.{◌≡◌, ℕ, ◌++◌, List, ◌∷◌, map, false, codes, refl, sym, ap, ◌∙◌, append_assoc, append-nil, flat_map, chars, length, IsUtf8, encode_utf8, arith, []}
 use Rattle.std.proofs.lemmas.Str.{chars_past_char, chars-nil}
 use Rattle.sq_lex.specs.Bytes.{Text}
 use Rattle.sq_fql.specs.Canon.{canon, canon_each, escaped, listed, operator_word, parameters_text}
