@@ -1,11 +1,10 @@
 -- Worked texts.
 use Rattle.std.proofs.Common.{◌≡◌, [], ◌∷◌, Some, None, Ok, refl}
-use Rattle.std.specs.Prelude.{codes, ℕ, List, pos, true, false}
-use Rattle.sq_lex.specs.Bytes.{Text, past}
+use Rattle.std.specs.Prelude.{codes, pos, true, false}
+use Rattle.sq_lex.specs.Bytes.{past}
 use Rattle.sq_lex.specs.Fql.{string_at, lexeme_at, fql_lexemes_from, fql_lexemes_of}
-use Rattle.sq_lex.specs.Outcome.{Outcome, refused}
+use Rattle.sq_lex.specs.Outcome.{refused}
 use Rattle.sq_fql.specs.declared.codes.TheConstants.{EMPTY_QUERY, UNKNOWN_OPERATOR, MISSING_ARGUMENT, EXTRA_ARGUMENT, BAD_PARAMETER, UNEXPECTED, UNCLOSED_PAREN, OTHER_BOOST, BAD_STAR}
-use Rattle.sq_fql.specs.declared.raw.FRaw.{FRaw}
 use Rattle.sq_fql.specs.declared.raw.FRaw.TheVariants as tree
 use Rattle.sq_fql.specs.declared.raw.Mode.TheVariants as mode
 use Rattle.sq_fql.specs.declared.raw.Op.TheVariants as op
