@@ -1,12 +1,10 @@
 -- Canonical texts are read as their trees: by induction on the tree, from the end of its text to the front.
-use Rattle.std.proofs.Common.{◌≡◌, ℕ, zero, suc, ◌+◌, ◌-◌, ◌<◌, ◌≤◌, nat_lt, Bool, true, false, List, [], ◌∷◌, ◌++◌, length, drop, max, codes, IfSome, Option, Some, None, Ok, refl, sym, ◌∙◌, ap, subst, arith, append_assoc, append-nil, length-append}
+use Rattle.std.proofs.Common.{◌≡◌, ℕ, zero, suc, ◌+◌, ◌<◌, ◌≤◌, nat_lt, true, false, List, [], ◌∷◌, ◌++◌, length, drop, codes, Some, Result, Ok, Err, IfOk, refl, sym, ◌∙◌, ap, subst, arith, append_assoc, append-nil, length-append}
 use Rattle.std.proofs.lemmas.Bool.Decides.{nat_tests}
 use Rattle.sq_lex.specs.declared.codes.TheConstants.{MAX_TEXT}
-use Rattle.sq_lex.specs.declared.class.Class.TheVariants as class
 use Rattle.sq_lex.specs.declared.fql_lexeme.FLexeme.{FLexeme}
-use Rattle.sq_lex.specs.Bytes.{Text, past}
-use Rattle.sq_lex.specs.Fql.{fql_lexemes_from, fql_lexemes_of}
-use Rattle.sq_lex.specs.Outcome.{Outcome, ◌>>=◌}
+use Rattle.sq_lex.specs.Bytes.{Text}
+use Rattle.sq_lex.specs.Fql.{fql_lexemes_of}
 use Rattle.sq_fql.specs.declared.codes.TheConstants.{MAX_LEVELS}
 use Rattle.sq_fql.specs.declared.raw.FRaw.{FRaw, All, Literal, Scope', Apply', Row_of-FRaw, end_of-FRaw, more_of-FRaw}
 use Rattle.sq_fql.specs.declared.raw.FRaw.TheVariants as tree
@@ -17,13 +15,13 @@ use Rattle.sq_fql.specs.declared.parameter.Given.{Given}
 use Rattle.sq_fql.specs.Operators.{operator_of, operands_of}
 use Rattle.sq_fql.specs.Parameters.{nothing_given}
 use Rattle.sq_fql.specs.Canon.{canon, canon_each, listed, operator_word, parameters_text}
-use Rattle.sq_fql.specs.Read.{read_of, whole_of, expression}
-use Rattle.sq_fql.specs.WellFormed.{IsName, HasForm, HaveForm, AreOperands, AreLiterals, IsWithinLimits, IsWellFormed, is_literal, count, operator_in}
-use Rattle.sq_fql.specs.CanonLaw.{levels, levels_each, unplaced, unplaced_each, AreTexts, EachTexts, IsReadAs, CanonReadsBack}
+use Rattle.sq_fql.specs.Read.{read_of, whole_of}
+use Rattle.sq_fql.specs.WellFormed.{IsName, HasForm, HaveForm, AreOperands, AreLiterals, IsWithinLimits, is_literal, operator_in}
+use Rattle.sq_fql.specs.CanonLaw.{levels, levels_each, unplaced, unplaced_each, AreTexts, EachTexts, IsReadAs, ReadsBack, CanonReadsBack}
 use Rattle.sq_fql.proofs.CanonLexLemmas.{Lexes, lexes_end, rest_behind, rest_behind_one}
 use Rattle.sq_fql.proofs.CanonReadLemmas.{IsEnd, literal_reads}
-use Rattle.sq_fql.proofs.CanonTreeLemmas.{ReadsTree, leaf_tree, star_tree, scope_tree, Closes, ReadsMore, ReadsList, list_reads, more_end, more_on, apply_tree}
-use Rattle.sq_fql.proofs.CanonParameterLemmas.{ReadsParameters, parameters_read}
+use Rattle.sq_fql.proofs.CanonTreeLemmas.{ReadsTree, leaf_tree, star_tree, scope_tree, Closes, ReadsMore, list_reads, more_end, more_on, apply_tree}
+use Rattle.sq_fql.proofs.CanonParameterLemmas.{parameters_read}
 
 -- ---- the table of operators
 
@@ -174,3 +172,7 @@ reads_back t well texts deep short =
     let end : IsEnd (drop (0 + length z) z) [] = subst (λ l. IsEnd l []) (sym done) (record { term = refl; parameter = refl; role = refl }) in
     let i = reads_tree MAX_LEVELS z t 0 [] [] well.form texts deep there end (lexes_end z (0 + length z) done) in
     record { found = i.found; read = read_whole z t i short; same = i.same }
+
+pub printed_reads_back : {E : Type 0} (r : Result (List ℕ) E) (z : Text) (t : FRaw) → IfOk r (λ text. text ≡ z) → z ≡ canon t → AreTexts t → IfOk r (λ text. ReadsBack text t)
+printed_reads_back (Ok text) z t same is texts = λ well deep short. subst (λ l. IsReadAs l t) (sym (same ∙ is)) (reads_back t well texts deep (subst (λ l. length l ≤ MAX_TEXT) (same ∙ is) short))
+printed_reads_back (Err e) z t same is texts = tt

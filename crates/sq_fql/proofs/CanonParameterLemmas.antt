@@ -1,5 +1,5 @@
 -- Printed parameters are read as the operator's.
-use Rattle.std.proofs.Common.{◌≡◌, ℕ, ℤ, suc, ◌+◌, ◌-◌, ◌<◌, ◌≤◌, ◌^◌, Bool, true, false, List, [], ◌∷◌, ◌++◌, length, drop, codes, ◌==◌, pos, negsuc, IsUtf8, IfSome, Option, Some, None, Ok, refl, sym, ◌∙◌, ap, subst, arith, append_assoc, append-nil, length-append}
+use Rattle.std.proofs.Common.{◌≡◌, ℕ, ℤ, suc, ◌+◌, ◌<◌, ◌≤◌, ◌^◌, Bool, true, false, List, [], ◌∷◌, ◌++◌, length, drop, codes, ◌==◌, pos, negsuc, IsUtf8, Some, None, Ok, refl, sym, ◌∙◌, ap, subst, arith, append_assoc, append-nil, length-append}
 use Rattle.std.specs.Prelude.{unsigned_abs}
 use Rattle.std.specs.Char.{is_ascii_digit}
 use Rattle.std.specs.List.{list_all}
@@ -7,14 +7,13 @@ use Rattle.std.specs.Str.{chars}
 use Rattle.std.proofs.lemmas.Bool.Decides.{nat_tests}
 use Rattle.std.proofs.lemmas.Fmt.{decimal_nonempty}
 use Rattle.std.specs.Fmt.{decimal, signed_decimal}
-use Rattle.std.specs.Option.{option_map}
 use Rattle.sq_lex.specs.declared.class.Class.TheVariants as class
 use Rattle.sq_lex.specs.declared.fql_lexeme.FKind.TheVariants as kind
 use Rattle.sq_lex.specs.declared.fql_lexeme.FLexeme.{FLexeme}
 use Rattle.sq_lex.specs.Bytes.{Text, is_in}
 use Rattle.sq_lex.specs.Fql.{lexeme}
-use Rattle.sq_lex.specs.Outcome.{Outcome, ◌>>=◌}
-use Rattle.sq_fql.specs.declared.codes.TheConstants.{MAX_BOOST, MAX_COUNT, MAX_NEAR, NEAR}
+use Rattle.sq_lex.specs.Outcome.{◌>>=◌}
+use Rattle.sq_fql.specs.declared.codes.TheConstants.{MAX_BOOST, MAX_COUNT, MAX_NEAR}
 use Rattle.sq_fql.specs.declared.raw.Mode.{Mode}
 use Rattle.sq_fql.specs.declared.raw.Mode.TheVariants as mode
 use Rattle.sq_fql.specs.declared.raw.Op.{Op}
@@ -24,15 +23,14 @@ use Rattle.sq_fql.specs.declared.operator.Operator.TheVariants as operator
 use Rattle.sq_fql.specs.declared.parameter.Parameter.{Parameter}
 use Rattle.sq_fql.specs.declared.parameter.Parameter.TheVariants as parameter
 use Rattle.sq_fql.specs.declared.parameter.Given.{Given}
-use Rattle.sq_fql.specs.Canon.{assigned, word_value, is_number, are_digits, quoted, distance_text, mode_text, end_text, lower_word, upper_word, parameters_text}
-use Rattle.sq_fql.specs.Number.{natural, whole}
+use Rattle.sq_fql.specs.Canon.{assigned, word_value, is_number, are_digits, quoted, distance_text, lower_word, upper_word, parameters_text}
 use Rattle.sq_fql.specs.Operators.{named, parameters}
 use Rattle.sq_fql.specs.Parameters.{nothing_given, with_value, operation}
-use Rattle.sq_fql.specs.Read.{wanted, word_text, content, parameter_by, with_parameter}
-use Rattle.sq_fql.specs.WellFormed.{IsName, IsDistance, IsWithinLimits, operator_in}
-use Rattle.sq_fql.proofs.CanonLexLemmas.{Lexes, stops, rest_behind, rest_behind_one, part_there, both_left, both_right}
+use Rattle.sq_fql.specs.Read.{wanted, content, parameter_by, with_parameter}
+use Rattle.sq_fql.specs.WellFormed.{IsName, IsWithinLimits, operator_in}
+use Rattle.sq_fql.proofs.CanonLexLemmas.{Lexes, stops, rest_behind, rest_behind_one, part_there, both_left}
 use Rattle.sq_fql.proofs.CanonNumberLemmas.{decimal_digits, natural_decimal, whole_decimal}
-use Rattle.sq_fql.proofs.CanonReadLemmas.{IsEnd, number_lexes}
+use Rattle.sq_fql.proofs.CanonReadLemmas.{number_lexes}
 use Rattle.sq_fql.proofs.CanonStringLemmas.{string_lexes, string_content}
 use Rattle.sq_fql.proofs.CanonTreeLemmas.{Closes, closes_end, closes_on}
 

@@ -1,9 +1,7 @@
 -- What the reader makes of the lexemes of printed pieces.
-use Rattle.std.proofs.Common.{◌≡◌, ℕ, zero, suc, ◌+◌, ◌-◌, ◌<◌, ◌≤◌, ◌==◌, ◌&&◌, ◌||◌, Bool, true, false, if◌then◌else◌, List, [], ◌∷◌, ◌++◌, length, drop, slice_index, codes, IsUtf8, IfSome, Option, Some, None, Ok, refl, sym, ◌∙◌, ap, subst, arith, append_assoc, inl, inr}
-use Rattle.std.proofs.lemmas.Bool.Decides.{nat_tests, eqb_tells}
+use Rattle.std.proofs.Common.{◌≡◌, ℕ, ◌+◌, ◌==◌, ◌||◌, Bool, true, false, if◌then◌else◌, List, [], ◌∷◌, ◌++◌, length, drop, codes, IsUtf8, None, Ok, refl, sym, ◌∙◌, ap, subst, arith}
+use Rattle.std.proofs.lemmas.Bool.Decides.{nat_tests}
 use Rattle.std.proofs.lemmas.Slice.Eq.{bytes_eq-Decides}
-use Rattle.std.specs.Char.{is_ascii_alphabetic, is_ascii_digit}
-use Rattle.std.specs.List.{list_all}
 use Rattle.std.specs.Str.{bytes_eq}
 use Rattle.sq_tokens.specs.Pattern.{first_bad_star}
 use Rattle.sq_lex.specs.declared.class.Class.TheVariants as class
@@ -11,15 +9,11 @@ use Rattle.sq_lex.specs.declared.fql_lexeme.FKind.TheVariants as kind
 use Rattle.sq_lex.specs.declared.fql_lexeme.FLexeme.{FLexeme}
 use Rattle.sq_lex.specs.Bytes.{Text, is_in}
 use Rattle.sq_lex.specs.Fql.{lexeme}
-use Rattle.sq_lex.specs.Outcome.{Outcome, ◌>>=◌}
-use Rattle.sq_fql.specs.declared.raw.FRaw.{FRaw}
-use Rattle.sq_fql.specs.declared.raw.FRaw.TheVariants as tree
-use Rattle.sq_fql.specs.declared.look.Role.{Role}
 use Rattle.sq_fql.specs.declared.look.Role.TheVariants as role
 use Rattle.sq_fql.specs.Canon.{are_digits, is_number, is_bare, quoted, literal_text}
-use Rattle.sq_fql.specs.Read.{next_role, role_of, wanted, word_text, content, has_bad_star, piece, is_all, literal, leaf, leaf_before, begun, expression, expression_over, deeper}
+use Rattle.sq_fql.specs.Read.{next_role, role_of, wanted, piece, literal, leaf}
 use Rattle.sq_fql.specs.WellFormed.{IsName}
-use Rattle.sq_fql.proofs.CanonLexLemmas.{Lexes, stops, both_left, both_right, part_there, name_lexes, digits_lex, minus_lexes, word_lexes}
+use Rattle.sq_fql.proofs.CanonLexLemmas.{Lexes, stops, part_there, name_lexes, digits_lex, minus_lexes}
 use Rattle.sq_fql.proofs.CanonStringLemmas.{string_lexes, string_content}
 
 -- behind an operand: nothing, a comma or `)`

@@ -1,5 +1,5 @@
 -- Printed strings are read as their texts.
-use Rattle.std.proofs.Common.{◌≡◌, ℕ, ◌+◌, ◌-◌, ◌<◌, ◌≤◌, ◌/◌, ◌%◌, ◌==◌, ◌&&◌, ◌||◌, nat_le, nat_lt, Bool, true, false, cond, List, [], ◌∷◌, ◌++◌, length, drop, flat_map, slice_range, chars, encode_utf8, encode_utf8_all, IsUtf8, Option, Some, None, Ok, refl, sym, ◌∙◌, ap, subst, arith, append_assoc, append-nil, length-append, inl, inr}
+use Rattle.std.proofs.Common.{◌≡◌, ℕ, ◌+◌, ◌-◌, ◌<◌, ◌≤◌, ◌/◌, ◌%◌, ◌==◌, ◌||◌, nat_le, nat_lt, Bool, true, false, cond, List, [], ◌∷◌, ◌++◌, length, drop, flat_map, slice_range, chars, encode_utf8, encode_utf8_all, IsUtf8, Some, Ok, refl, sym, ◌∙◌, ap, subst, arith, append_assoc, append-nil, length-append, inl, inr}
 use Rattle.std.proofs.lemmas.Bool.Decides.{nat_tests, eqb_tells}
 use Rattle.std.proofs.lemmas.Str.{chars-encodes, encodes-append, encodes-chars, scalars-chars, encode_ascii}
 use Rattle.std.specs.List.{list_all}
@@ -9,7 +9,7 @@ use Rattle.sq_lex.specs.declared.fql_lexeme.FLexeme.{FLexeme}
 use Rattle.sq_lex.specs.Bytes.{Text}
 use Rattle.sq_lex.specs.Fql.{lexeme, closing, string_at, lexeme_at}
 use Rattle.sq_fql.specs.Canon.{escaped, quoted}
-use Rattle.sq_fql.specs.Read.{meant, unescaped, content}
+use Rattle.sq_fql.specs.Read.{unescaped, content}
 use Rattle.sq_fql.proofs.CanonLexLemmas.{Lexes, lexes_on, rest_behind_one, byte_there, part_there, both_left, both_right}
 
 -- ---- the end of a string

@@ -1,15 +1,14 @@
 -- What the reader makes of the lexemes of printed trees, part after part.
-use Rattle.std.proofs.Common.{◌≡◌, ℕ, zero, suc, ◌+◌, ◌-◌, ◌<◌, ◌≤◌, Bool, true, false, not, nat_le, nat_lt, List, [], ◌∷◌, ◌++◌, length, map, drop, slice_index, codes, IsUtf8, IfSome, Option, Some, None, Ok, refl, sym, ◌∙◌, ap, subst, arith, append_assoc, append-nil, length-append}
+use Rattle.std.proofs.Common.{◌≡◌, ℕ, zero, suc, ◌+◌, ◌≤◌, Bool, true, false, nat_lt, List, [], ◌∷◌, ◌++◌, length, map, drop, slice_index, codes, IfSome, Option, Some, None, Ok, refl, sym, ◌∙◌, ap, subst, arith, append_assoc, append-nil, length-append}
 use Rattle.std.proofs.lemmas.Bool.Decides.{nat_tests}
 use Rattle.std.specs.Char.{is_ascii_alphabetic}
-use Rattle.sq_tokens.specs.Pattern.{first_bad_star}
 use Rattle.sq_lex.specs.declared.class.Class.TheVariants as class
 use Rattle.sq_lex.specs.declared.fql_lexeme.FKind.TheVariants as kind
 use Rattle.sq_lex.specs.declared.fql_lexeme.FLexeme.{FLexeme}
-use Rattle.sq_lex.specs.Bytes.{Text, is_in}
+use Rattle.sq_lex.specs.Bytes.{Text}
 use Rattle.sq_lex.specs.Fql.{lexeme}
 use Rattle.sq_lex.specs.Outcome.{Outcome, ◌>>=◌}
-use Rattle.sq_fql.specs.declared.raw.FRaw.{FRaw, All, Literal, Scope', Apply', Row_of-FRaw, end_of-FRaw, more_of-FRaw}
+use Rattle.sq_fql.specs.declared.raw.FRaw.{FRaw, All, Literal, Scope', Row_of-FRaw, end_of-FRaw, more_of-FRaw}
 use Rattle.sq_fql.specs.declared.raw.FRaw.TheVariants as tree
 use Rattle.sq_fql.specs.declared.raw.FRaw.{items-the_row-FRaw, items_hidden-the_row-FRaw-1}
 use Rattle.sq_fql.specs.declared.raw.FRaw.TheBlock.{shape-the_row-FRaw-0, hidden-the_row-FRaw-0, hidden-the_row-FRaw-1}
@@ -22,11 +21,11 @@ use Rattle.sq_fql.specs.declared.look.Role.TheVariants as role
 use Rattle.sq_fql.specs.Operators.{operator_of, operands_of}
 use Rattle.sq_fql.specs.Parameters.{nothing_given, operation}
 use Rattle.sq_fql.specs.Canon.{operator_word}
-use Rattle.sq_fql.specs.Read.{Reader, Listed, behind, next_role, role_of, wanted, word_text, piece, literal, leaf, literal_only, is_full, is_full_at, operand, with_next_operand, entry_by, entry, separator, ended_or, entries, nothing, with_operand, with_parameter, completed, applied, expression, expression_over, deeper, scoped}
+use Rattle.sq_fql.specs.Read.{Reader, Listed, behind, role_of, wanted, piece, leaf, literal_only, is_full, is_full_at, operand, with_next_operand, entry_by, entry, separator, ended_or, entries, nothing, with_parameter, completed, expression, expression_over, deeper}
 use Rattle.sq_fql.specs.WellFormed.{IsName, is_literal, count, operator_in}
 use Rattle.sq_fql.specs.CanonLaw.{unplaced, unplaced_each}
-use Rattle.sq_fql.proofs.CanonLexLemmas.{Lexes, stops, rest_behind, rest_behind_one, byte_there, part_there, name_lexes, mark_lexes, word_lexes}
-use Rattle.sq_fql.proofs.CanonReadLemmas.{IsEnd, ReadsLeaf, literal_reads}
+use Rattle.sq_fql.proofs.CanonLexLemmas.{Lexes, rest_behind, rest_behind_one, byte_there, part_there, name_lexes, mark_lexes, word_lexes}
+use Rattle.sq_fql.proofs.CanonReadLemmas.{IsEnd, ReadsLeaf}
 
 -- A tree stands at a place, and these lexemes behind it.
 pub record ReadsTree (k : ℕ) (z : Text) (at : ℕ) (t : FRaw) (xs : List FLexeme) : Type 0 where
