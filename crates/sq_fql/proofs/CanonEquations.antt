@@ -1,6 +1,9 @@
 -- The canonical text of a tree by its operands as a list, as code meets them.
-use Rattle.std.proofs.Common.{◌≡◌, ℕ, ◌++◌, List, ◌∷◌, map, false, codes, refl, sym, ap, ◌∙◌, append_assoc, append-nil, flat_map, chars, length, IsUtf8, encode_utf8, arith, [], ◌+◌}
+use Rattle.std.proofs.Common.{◌≡◌, ℕ, ◌++◌, List, ◌∷◌, map, false, codes, refl, sym, subst, ap, ◌∙◌, append_assoc, append-nil, flat_map, chars, length, IsUtf8, encode_utf8, arith, []}
 use Rattle.std.proofs.lemmas.Str.{chars_past_char, chars-nil}
+use Rattle.std.specs.List.{All, AllByRecursion}
+use Rattle.std.proofs.lemmas.List.Elements.{recursion_from_All}
+use Rattle.sq_fql.specs.CanonLaw.{AreTexts, EachTexts}
 use Rattle.sq_lex.specs.Bytes.{Text}
 use Rattle.sq_fql.specs.Canon.{canon, canon_each, escaped, listed, operator_word, parameters_text}
 use Rattle.sq_fql.specs.declared.raw.Op.{Op}
@@ -49,3 +52,18 @@ escaped_end front [] whole none kept = sym (append-nil front) ∙ (rw chars-nil 
 escaped_end front (c ∷ rest) whole none kept = absurd (omega arith)
 
 pub ruleset canon_rules = (canon_scope, canon_apply)
+
+-- ---- literals that are texts
+
+each_of_row : {m : _} (row : Row_of-FRaw m) → AllByRecursion AreTexts (items-the_row-FRaw m row) → EachTexts row
+each_of_row end_of-FRaw all = tt
+each_of_row (more_of-FRaw part rest) all = (all.0, each_of_row rest all.1)
+
+pub texts_scope : (tree inner : FRaw) (at : ℕ) (name : Text) → tree ≡ Scope at name inner → AreTexts inner → AreTexts tree
+unfolding shape-the_row-FRaw-0 hidden-the_row-FRaw-0 denote.Hole.Carrier.hidden
+texts_scope tree inner at name is one = subst AreTexts (sym is) (one, tt)
+
+pub texts_apply : (tree : FRaw) (operands shown : List FRaw) (at : ℕ) (o : Op) → tree ≡ Apply at o operands → shown ≡ operands → All AreTexts shown → AreTexts tree
+texts_apply tree operands shown at o is same all =
+    let every : AllByRecursion AreTexts operands = recursion_from_All AreTexts operands (subst (All AreTexts) same all) in
+    subst AreTexts (sym is) (each_of_row (hidden-the_row-FRaw-1 operands) (subst (λ l. AllByRecursion AreTexts l) (sym (items_hidden-the_row-FRaw-1 operands)) every))

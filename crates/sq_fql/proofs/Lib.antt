@@ -1,4 +1,11 @@
 pub mod CanonEquations
+mod CanonLawLemmas
+mod CanonLexLemmas
+mod CanonNumberLemmas
+mod CanonParameterLemmas
+mod CanonReadLemmas
+mod CanonStringLemmas
+mod CanonTreeLemmas
 pub mod EscapeLemmas
 pub mod ListLemmas
 mod ReadExamples

@@ -1,4 +1,5 @@
 pub mod Canon
+pub mod CanonLaw
 pub mod Number
 pub mod Operators
 pub mod Parameters

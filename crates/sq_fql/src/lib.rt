@@ -9,10 +9,12 @@ mod number;
 mod operator;
 mod parameter;
 mod print;
+mod print_laws;
 mod raw;
 mod read;
 
 pub use print::print_fql;
+pub use print_laws::canonical_texts_read_back;
 pub use raw::{FPiece, FRaw, Mode, Op};
 pub use read::read_fql;
 

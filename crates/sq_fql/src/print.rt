@@ -2,9 +2,11 @@
 
 ghost use Rattle.std.specs.Prelude.{◌≡◌, ◌++◌, false, flat_map, map, chars, codes, string_bytes, IfOk, OnOk};
 ghost use Rattle.std.specs.Char.{is_ascii_digit};
-ghost use Rattle.std.specs.List.{list_all};
+ghost use Rattle.std.specs.List.{All, list_all};
 ghost use Rattle.std.specs.Fmt.{decimal, signed_decimal};
+ghost use Rattle.std.specs.Str.{IsUtf8};
 ghost use Rattle.sq_fql.specs.Canon as spec;
+ghost use Rattle.sq_fql.specs.CanonLaw.{AreTexts, ReadsBack};
 
 use crate::raw::{FRaw, Mode, Op};
 use sq_base::Text;
@@ -70,7 +72,8 @@ fn push_quoted(text: &mut String, value: &str) -> Result<(), AllocError>
 }
 
 fn push_literal(text: &mut String, value: &Text) -> Result<(), AllocError>
-    ensures { OnOk result (string_bytes text.new ≡ string_bytes text.old ++ spec.literal_text value.now) }
+    ensures value { OnOk result (string_bytes text.new ≡ string_bytes text.old ++ spec.literal_text value.now) }
+    ensures utf8 { OnOk result (IsUtf8 value.now) }
 {
     if is_bare(value.as_slice()) {
         text.push_str(value.as_str())?;
@@ -224,7 +227,8 @@ fn push_separator(text: &mut String, behind: bool) -> Result<(), AllocError>
 #[cycle(printing)]
 #[tactic(auto, using(crate::proofs::CanonEquations::canon_rules))]
 fn push_tree(text: &mut String, tree: &FRaw) -> Result<(), AllocError>
-    ensures { OnOk result (string_bytes text.new ≡ string_bytes text.old ++ spec.canon tree.now) }
+    ensures value { OnOk result (string_bytes text.new ≡ string_bytes text.old ++ spec.canon tree.now) }
+    ensures texts { OnOk result (AreTexts tree.now) }
 {
     match tree {
         FRaw::All(_) => {
@@ -248,7 +252,8 @@ fn push_tree(text: &mut String, tree: &FRaw) -> Result<(), AllocError>
 
 #[cycle(printing)]
 fn push_operands(text: &mut String, trees: &[FRaw]) -> Result<(), AllocError>
-    ensures { OnOk result (string_bytes text.new ≡ string_bytes text.old ++ spec.listed false (map spec.canon trees.now)) }
+    ensures value { OnOk result (string_bytes text.new ≡ string_bytes text.old ++ spec.listed false (map spec.canon trees.now)) }
+    ensures texts { OnOk result (All AreTexts trees.now) }
 {
     let mut behind = false;
     for tree in trees {
@@ -261,7 +266,8 @@ fn push_operands(text: &mut String, trees: &[FRaw]) -> Result<(), AllocError>
 
 /// The canonical text of a tree: no white space, operands before parameters, and one way to write each literal, operator and parameter.
 pub fn print_fql(alloc: Global, tree: &FRaw) -> Result<Text, AllocError>
-    ensures { IfOk result (λ text. text ≡ spec.canon tree.now) }
+    ensures value { IfOk result (λ text. text ≡ spec.canon tree.now) }
+    ensures reads_back { IfOk result (λ text. ReadsBack text tree.now) }
 {
     let mut text = String::new(alloc);
     push_tree(&mut text, tree)?;
