@@ -64,7 +64,7 @@ near_sound left right n ordered bound l r = ((l, tt), (r, tt), le-leb n 1_000 bo
 
 -- ---- the outcomes
 
-if_misplaced : {A : Type 0} (x : Outcome A) (code at : ℕ) (P : KTree → Type 0) → IfOk (x >> refused code at) P
+pub if_misplaced : {A : Type 0} (x : Outcome A) (code at : ℕ) (P : KTree → Type 0) → IfOk (x >> refused code at) P
 if_misplaced (Ok x) code at P = tt
 if_misplaced (Err e) code at P = tt
 
