@@ -1,5 +1,5 @@
 -- A typed tree is sound for its schema, and no larger than what was read.
-use Rattle.std.proofs.Common.{◌≡◌, ◌≢◌, ℕ, ◌+◌, ◌≤◌, ◌<◌, Bool, true, false, ◌&&◌, List, [], ◌∷◌, length, fold, Option, Some, None, ℤ, pos, refl, sym, ap, ◌∙◌, subst, arith}
+use Rattle.std.proofs.Common.{◌≡◌, ℕ, ◌+◌, ◌≤◌, Bool, true, false, ◌&&◌, List, ◌∷◌, length, Option, Some, None, ℤ, refl, sym, ap, ◌∙◌, subst, arith}
 use Rattle.std.specs.Prelude.{Ok, Err, IfOk, is_some, unsigned_abs, nat_le, if◌then◌else◌, position, option_map, option_and_then}
 use Rattle.std.specs.List.{AllByRecursion}
 use Rattle.std.proofs.lemmas.Bool.Decides.{nat_tests}
@@ -11,9 +11,9 @@ use Rattle.sq_schema.specs.Properties.{has_name}
 use Rattle.sq_tokens.specs.Token.{text_tokens}
 use Rattle.sq_tokens.specs.Pattern.{without_good_star}
 use Rattle.sq_model.specs.Lists.{is_empty}
-use Rattle.sq_model.specs.Kinds.{kind_of, is_integer_value, is_same}
+use Rattle.sq_model.specs.Kinds.{kind_of}
 use Rattle.sq_model.specs.KqlCopies.{copies}
-use Rattle.sq_model.specs.KqlSound.{LeafSound, reads_text, is_value_test, is_value_test_of, PartsSound, SomeSound, EachSound, SomeOperandsSound, EachOperandSound, IsSound}
+use Rattle.sq_model.specs.KqlSound.{LeafSound, reads_text, is_value_test, PartsSound, SomeSound, EachSound, SomeOperandsSound, EachOperandSound, IsSound}
 use Rattle.sq_model.specs.declared.leaf.Leaf.{Leaf}
 use Rattle.sq_model.specs.declared.kql.Relation.{Relation}
 use Rattle.sq_model.specs.declared.kql.Relation.TheVariants as relation
@@ -30,8 +30,8 @@ use Rattle.sq_kql.specs.declared.raw.KRaw.{KRaw, Free, All, Words, Group', Restr
 use Rattle.sq_kql.specs.WellFormed.{IsStarless, HasForm, HaveForm, OperandsHaveForm, AreSome, AreSomeOperands, IsWellFormed, piece_bytes, upper_bytes, bytes, bytes_each, operand_bytes, nodes, nodes_each, operand_nodes}
 use Rattle.sq_typing.specs.Forms.{ProximitySound}
 use Rattle.sq_typing.specs.Together.{all_of, mapped}
-use Rattle.sq_typing.specs.KqlValues.{found, has_relation, tested, relation_of, literal, leaf_of, text_value, text_test, value_test, test_of, restriction, bounds, number_value, moment_value, yes_no_value}
-use Rattle.sq_typing.specs.Kql.{leaves_of, operand_of, proximate, proximate_each, with_few_copies, few_copies, typed, typed_each, typed_operands}
+use Rattle.sq_typing.specs.KqlValues.{found, has_relation, tested, relation_of, literal, leaf_of, text_value, value_test, test_of, restriction, bounds, number_value, moment_value, yes_no_value}
+use Rattle.sq_typing.specs.Kql.{operand_of, proximate, proximate_each, with_few_copies, few_copies, typed, typed_each, typed_operands}
 use Rattle.sq_typing.proofs.ProximateLemmas.{leaf_sound, words_sound, if_misplaced, proximate_sound}
 use Rattle.sq_typing.proofs.SizeLemmas.{Small, SmallEach, SmallOperands, small_or, small_and, small_run, small_group, small_near, small_xrank, small_cons, small_operand_cons, small_words}
 use Rattle.sq_typing.proofs.SoundLemmas.{sound_of_few}

@@ -79,11 +79,7 @@ fn a_text_is_typed_or_refused_by_the_fault_that_goes_first(rt: HostRuntime) -> R
 fn too_many_forms_are_looked_for_last(rt: HostRuntime) -> Result<(), Fail> {
     let alloc = rt.alloc();
     let schema = schema(alloc)?;
-    for (more, end, code, at) in [
-        (3, "", 0, 0),
-        (4, "", 311, 0),
-        (4, " colour:red", 301, 85),
-    ] {
+    for (more, end, code, at) in [(3, "", 0, 0), (4, "", 311, 0), (4, " colour:red", 301, 85)] {
         let mut text = String::from_str(alloc, "(a OR \"b c\")")?;
         text.push_str(" NEAR (a OR \"b c\")".repeat(alloc, more)?.as_str())?;
         text.push_str(end)?;
