@@ -1,5 +1,5 @@
 -- The weights and the copies of a KQL tree by its parts as a list, and how the copies of a part bound those of the whole.
-use Rattle.std.proofs.Common.{◌≡◌, ℕ, ◌+◌, ◌*◌, ◌<◌, ◌≤◌, Bool, true, false, not, ◌&&◌, List, [], ◌∷◌, ◌++◌, map, length, refl, sym, ap, ap₂, subst, ◌∙◌, arith, length-append}
+use Rattle.std.proofs.Common.{◌≡◌, ℕ, ◌*◌, ◌<◌, ◌≤◌, Bool, true, false, not, ◌&&◌, List, [], ◌∷◌, ◌++◌, map, length, refl, sym, ap, ap₂, subst, ◌∙◌, arith, length-append}
 use Rattle.std.proofs.lemmas.List.{append-nil}
 use Rattle.std.proofs.lemmas.Nat.{mul-le}
 use Rattle.std.specs.Prelude.{max, sum}
@@ -8,7 +8,7 @@ use Rattle.sq_model.specs.Lists.{is_empty, joined}
 use Rattle.sq_model.specs.Triples.{choices}
 use Rattle.sq_model.specs.Copies.{distinct, greatest, product}
 use Rattle.sq_model.specs.KqlCopies.{weights, weights_each, copies, copies_each}
-use Rattle.sq_model.specs.declared.kql.KTree.{KTree, Free, All, Words, TextTest, ValueTest, Run', And', Xrank', Group, Near, Or, Group', Near', Or', Row_of-KTree, end_of-KTree, more_of-KTree, items-the_row-KTree, items_hidden-the_row-KTree-2}
+use Rattle.sq_model.specs.declared.kql.KTree.{KTree, Free, Words, Group, Near, Or, Group', Near', Or', Row_of-KTree, end_of-KTree, more_of-KTree, items-the_row-KTree, items_hidden-the_row-KTree-2}
 use Rattle.sq_model.specs.declared.kql.KTree.TheBlock.{shape-the_row-KTree-0, hidden-the_row-KTree-0, hidden-the_row-KTree-2}
 use Rattle.sq_typing.specs.Forms.{is_filled, are_filled, each_filled, IsCount, HasForms}
 use Rattle.sq_typing.specs.declared.forms.Forms.{Forms}

@@ -1,12 +1,12 @@
 -- Counting the parts of a list from front to back, for the trees of both languages.
-use Rattle.std.proofs.Common.{◌≡◌, ℕ, ◌+◌, ◌<◌, ◌≤◌, Bool, true, List, [], ◌∷◌, map, drop, get_or, length, refl, suc, sym, ap, subst, ◌∙◌, arith, add-one, drop-cons}
+use Rattle.std.proofs.Common.{◌≡◌, ℕ, ◌+◌, ◌<◌, ◌≤◌, Bool, true, List, [], ◌∷◌, map, drop, get_or, length, suc, sym, ap, subst, ◌∙◌, arith, add-one, drop-cons}
 use Rattle.std.specs.Prelude.{max}
 use Rattle.std.specs.List.{list_all}
 use Rattle.sq_model.specs.Lists.{joined}
 use Rattle.sq_model.specs.Copies.{distinct, greatest}
 use Rattle.sq_typing.specs.Forms.{with_all}
 use Rattle.sq_typing.proofs.DistinctLemmas.{distinct_of_all, with_all-append}
-use Rattle.sq_typing.proofs.CopiesLemmas.{and_left, and_right}
+use Rattle.sq_typing.proofs.CopiesLemmas.{and_right}
 
 pub next_of : {X : Type 0} (xs : List X) (i : ℕ) (x : X) → i < length xs → x ≡ get_or xs i x → drop i xs ≡ x ∷ drop (i + 1) xs
 next_of xs i x within is = rw (add-one, drop-cons xs i x) (ap (λ y. y ∷ drop (suc i) xs) (sym is))

@@ -1,11 +1,10 @@
 -- Numbers, each once: what `distinct` keeps, and how code builds it from front to back.
-use Rattle.std.proofs.Common.{◌≡◌, ℕ, ◌+◌, ◌*◌, ◌<◌, Bool, true, false, not, ◌||◌, if◌then◌else◌, List, [], ◌∷◌, ◌++◌, map, length, refl, sym, ap, ap₂, subst, suc, ◌∙◌, arith, append_assoc, add-one, drop, drop-cons, get_or}
-use Rattle.std.specs.Prelude.{nat_eq, filter, sum}
-use Rattle.std.specs.List.{list_any, flat_map}
+use Rattle.std.proofs.Common.{◌≡◌, ℕ, ◌<◌, Bool, true, false, ◌||◌, if◌then◌else◌, List, [], ◌∷◌, ◌++◌, length, refl, sym, ap, subst, ◌∙◌, arith, append_assoc}
+use Rattle.std.specs.Prelude.{nat_eq}
+use Rattle.std.specs.List.{list_any}
 use Rattle.std.proofs.lemmas.Bool.{eqb-true}
-use Rattle.std.proofs.lemmas.List.{append-nil, map-append}
+use Rattle.std.proofs.lemmas.List.{append-nil}
 use Rattle.std.proofs.lemmas.List.Folds.{list_any-append}
-use Rattle.sq_model.specs.Triples.{choices}
 use Rattle.sq_model.specs.Copies.{distinct}
 use Rattle.sq_typing.specs.Forms.{with_last, with_all}
 

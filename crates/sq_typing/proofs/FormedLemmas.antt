@@ -1,13 +1,13 @@
 -- The parts of a well-formed tree are well formed.
-use Rattle.std.proofs.Common.{◌≡◌, ℕ, ◌+◌, ◌<◌, ◌≤◌, Bool, List, [], ◌∷◌, length, fold, Option, Some, None, subst, arith, lit≤, refl, ℤ}
+use Rattle.std.proofs.Common.{◌≡◌, ℕ, ◌+◌, ◌<◌, ◌≤◌, Bool, List, [], ◌∷◌, fold, Option, subst, arith, ℤ}
 use Rattle.std.specs.List.{All, AllByRecursion}
 use Rattle.std.proofs.lemmas.List.Elements.{All-from_recursion}
 use Rattle.sq_lex.specs.declared.lexeme.Relation.{Relation}
 use Rattle.sq_kql.specs.declared.raw.Piece.{Piece}
 use Rattle.sq_kql.specs.declared.raw.KRawOperand.{KRawOperand}
-use Rattle.sq_kql.specs.declared.raw.KRaw.{KRaw, Free, Words, Restrict, Group, Near, Run, And, Or, Xrank, Row_of-KRaw, end_of-KRaw, more_of-KRaw, Row_of-KRawOperand, end_of-KRawOperand, more_of-KRawOperand, items-the_row-KRaw, items_hidden-the_row-KRaw-2, items-the_row-KRawOperand, items_hidden-the_row-KRawOperand-1}
+use Rattle.sq_kql.specs.declared.raw.KRaw.{KRaw, Words, Restrict, Group, Near, Run, And, Or, Xrank, Row_of-KRaw, end_of-KRaw, more_of-KRaw, Row_of-KRawOperand, end_of-KRawOperand, more_of-KRawOperand, items-the_row-KRaw, items_hidden-the_row-KRaw-2, items-the_row-KRawOperand, items_hidden-the_row-KRawOperand-1}
 use Rattle.sq_kql.specs.declared.raw.KRaw.TheBlock.{shape-the_row-KRaw-0, hidden-the_row-KRaw-0, hidden-the_row-KRaw-2, hidden-the_row-KRawOperand-1}
-use Rattle.sq_kql.specs.WellFormed.{IsPattern, HaveForm, OperandsHaveForm, IsWellFormed, bytes_each, operand_bytes, piece_bytes}
+use Rattle.sq_kql.specs.WellFormed.{IsPattern, HaveForm, OperandsHaveForm, bytes_each, operand_bytes, piece_bytes}
 use Rattle.sq_typing.specs.Formed.{IsFormed, IsLiteral, IsValue}
 
 abbrev IsFormedOperand : KRawOperand → Type 0

@@ -1,5 +1,5 @@
 -- Typing by the parts of a tree as a list, as code meets them.
-use Rattle.std.proofs.Common.{◌≡◌, ℕ, Bool, List, [], ◌∷◌, map, refl, ap, ◌∙◌, ℤ}
+use Rattle.std.proofs.Common.{◌≡◌, ℕ, Bool, List, ◌∷◌, map, refl, ap, ◌∙◌, ℤ}
 use Rattle.sq_schema.specs.declared.property.Property.{Property}
 use Rattle.sq_model.specs.declared.kql.KTree.TheVariants as tree
 use Rattle.sq_kql.specs.declared.raw.KRawOperand.{KRawOperand}

@@ -1,6 +1,6 @@
 -- Worked queries of the archive's schema about 2024-02-29T12:00:00Z, typed or refused.
-use Rattle.std.proofs.Common.{◌≡◌, ℕ, Bool, true, false, List, [], ◌∷◌, ◌++◌, map, Option, Some, None, ℤ, pos, refl}
-use Rattle.std.specs.Prelude.{codes, Ok, Err}
+use Rattle.std.proofs.Common.{◌≡◌, ℕ, true, false, List, [], ◌∷◌, map, Some, None, pos, refl}
+use Rattle.std.specs.Prelude.{codes, Ok}
 use Rattle.jiff_core.specs.Calendar.{days_from_civil, day_count, days_of_years, days_of_months, weekday_number}
 use Rattle.sq_schema.specs.declared.property.Kind.{Kind}
 use Rattle.sq_schema.specs.declared.property.Kind.TheVariants as kind
@@ -12,7 +12,6 @@ use Rattle.sq_schema.specs.Shapes.{begins_with, two_digits}
 use Rattle.sq_schema.specs.Values.{is_numeral, behind_minus, number_of, yes_no_of}
 use Rattle.sq_schema.specs.Words.{is_same_word}
 use Rattle.sq_tokens.specs.Token.{text_tokens}
-use Rattle.sq_model.specs.declared.leaf.Leaf.{Leaf}
 use Rattle.sq_model.specs.declared.kql.KOperand.{KOperand}
 use Rattle.sq_model.specs.declared.kql.Sign.TheVariants as model
 use Rattle.sq_model.specs.declared.kql.Relation.TheVariants as relation

@@ -14,4 +14,5 @@ pub mod SpanLemmas
 mod SumLemmas
 mod SummedLemmas
 pub mod TogetherLemmas
+pub mod TypedLemmas
 mod ValueLemmas

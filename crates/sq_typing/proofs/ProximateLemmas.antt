@@ -1,31 +1,28 @@
 -- What may stand in NEAR and ONEAR is sound, but for the number of its copies.
-use Rattle.std.proofs.Common.{◌≡◌, ◌≢◌, ◌≤◌, ℕ, Bool, true, false, List, [], ◌∷◌, map, refl, sym, subst}
+use Rattle.std.proofs.Common.{◌≡◌, ◌≢◌, ℕ, true, false, List, [], ◌∷◌, refl}
 use Rattle.std.specs.Prelude.{Ok, Err, IfOk}
 use Rattle.std.specs.List.{AllByRecursion}
 use Rattle.std.proofs.lemmas.Bool.{le-leb}
-use Rattle.sq_schema.specs.declared.property.Kind.{Kind}
 use Rattle.sq_schema.specs.declared.property.Property.{Property}
 use Rattle.sq_model.specs.Lists.{is_empty}
 use Rattle.sq_model.specs.KqlSound.{LeafSound, LeavesSound}
-use Rattle.sq_model.specs.declared.kql.KTree.{KTree, Row_of-KTree, end_of-KTree, more_of-KTree, items-the_row-KTree, items_hidden-the_row-KTree-2}
+use Rattle.sq_model.specs.declared.kql.KTree.{KTree}
 use Rattle.sq_model.specs.declared.kql.KTree.TheVariants as tree
-use Rattle.sq_model.specs.declared.kql.KTree.TheBlock.{shape-the_row-KTree-0, hidden-the_row-KTree-0, hidden-the_row-KTree-2}
 use Rattle.sq_lex.specs.Outcome.{Outcome, refused, ◌>>◌}
 use Rattle.sq_kql.specs.declared.raw.Piece.{Piece}
 use Rattle.sq_kql.specs.declared.raw.KRaw.{KRaw, Free, All, Words, Group', Restrict, Near', Run', And', Or', Xrank', Row_of-KRaw, end_of-KRaw, more_of-KRaw}
 use Rattle.sq_kql.specs.WellFormed.{IsPattern, HasForm, HaveForm, AreSome}
-use Rattle.sq_typing.specs.Forms.{is_filled, ProximitySound, SomeProximitySound, EachProximitySound}
+use Rattle.sq_typing.specs.Forms.{is_filled, ProximitySound}
 use Rattle.sq_typing.specs.Together.{all_of}
-use Rattle.sq_typing.specs.KqlValues.{leaf_of, misplaced, relation_of, tested}
+use Rattle.sq_typing.specs.KqlValues.{leaf_of, relation_of, tested}
 use Rattle.sq_typing.specs.Kql.{leaves_of, proximate, proximate_each}
 use Rattle.sq_typing.proofs.LeafLemmas.{is_some}
-use Rattle.sq_typing.proofs.SoundLemmas.{filled_of_sound}
+use Rattle.sq_typing.proofs.SoundLemmas.{filled_of_sound, sound_or, sound_group, sound_near}
 use Rattle.sq_typing.proofs.TogetherLemmas.{if_mapped, if_together, if_weaker}
 
--- there is one, and it holds of all
-abbrev pub Some_of : {X : Type 0} → (X → Type 0) → List X → Type 0
-Some_of P [] = ⊥
-Some_of P (x ∷ xs) = P x × AllByRecursion P xs
+-- there is one, and all are sound
+abbrev AreSomeSound : List KTree → Type 0
+AreSomeSound us = (is_empty us ≡ false) × AllByRecursion ProximitySound us
 
 pub leaf_sound : (p : Piece) → IsPattern p → LeafSound (leaf_of p.text)
 leaf_sound p form = record { pattern = refl; stars = form.0; tokens = is_some _ form.1 }
@@ -41,30 +38,9 @@ some_leaves (p ∷ ps) some = refl
 pub words_sound : (ps : List Piece) → (ps ≢ []) → AllByRecursion IsPattern ps → (is_empty (leaves_of ps) ≡ false) × LeavesSound (leaves_of ps)
 words_sound ps some form = (some_leaves ps some, leaves_sound ps form)
 
--- ---- built trees
-
-each_row : {m : _} (row : Row_of-KTree m) → AllByRecursion ProximitySound (items-the_row-KTree m row) → EachProximitySound row
-each_row end_of-KTree sound = tt
-each_row (more_of-KTree part rest) sound = (sound.0, each_row rest sound.1)
-
-some_row : {m : _} (row : Row_of-KTree m) → Some_of ProximitySound (items-the_row-KTree m row) → SomeProximitySound row
-some_row end_of-KTree sound = absurd sound
-some_row (more_of-KTree part rest) sound = (sound.0, each_row rest sound.1)
-
-or_sound : (parts : List KTree) → Some_of ProximitySound parts → ProximitySound (tree.Or parts)
-or_sound parts sound = some_row (hidden-the_row-KTree-2 parts) (subst (Some_of ProximitySound) (sym (items_hidden-the_row-KTree-2 parts)) sound)
-
-group_sound : (inside : KTree) → ProximitySound inside → ProximitySound (tree.Group inside)
-unfolding shape-the_row-KTree-0 hidden-the_row-KTree-0 denote.Hole.Carrier.hidden
-group_sound inside sound = (sound, tt)
-
-near_sound : (left right : KTree) (n : ℕ) (ordered : Bool) → n ≤ 1000 → ProximitySound left → ProximitySound right → ProximitySound (tree.Near left right n ordered)
-unfolding shape-the_row-KTree-0 hidden-the_row-KTree-0 denote.Hole.Carrier.hidden
-near_sound left right n ordered bound l r = ((l, tt), (r, tt), le-leb n 1_000 bound)
-
 -- ---- the outcomes
 
-if_misplaced : {A : Type 0} (x : Outcome A) (code at : ℕ) (P : KTree → Type 0) → IfOk (x >> refused code at) P
+pub if_misplaced : {A : Type 0} (x : Outcome A) (code at : ℕ) (P : KTree → Type 0) → IfOk (x >> refused code at) P
 if_misplaced (Ok x) code at P = tt
 if_misplaced (Err e) code at P = tt
 
@@ -75,22 +51,22 @@ module _ (schema : List Property) where
     proximate_sound (All at) form = tt
     proximate_sound (Words at ps) form = words_sound ps form.0 form.1
     proximate_sound (Group' at s (more_of-KRaw inside end_of-KRaw)) form =
-        if_mapped tree.Group (proximate schema inside) ProximitySound ProximitySound (proximate_sound inside form.0) group_sound
+        if_mapped tree.Group (proximate schema inside) ProximitySound ProximitySound (proximate_sound inside form.0) sound_group
     proximate_sound (Restrict at name r value upper) form = if_misplaced (tested schema at name (relation_of r)) _ at ProximitySound
     proximate_sound (Near' at s (more_of-KRaw left end_of-KRaw) t (more_of-KRaw right end_of-KRaw) n ordered) form =
         if_together (λ l r. tree.Near l r n ordered) (proximate schema left) (proximate schema right) ProximitySound ProximitySound ProximitySound
-        (proximate_sound left form.0.0) (proximate_sound right form.1.0) (λ l r h k. near_sound l r n ordered form.2 h k)
+        (proximate_sound left form.0.0) (proximate_sound right form.1.0) (λ l r h k. sound_near l r n ordered h k (le-leb n 1_000 form.2))
     proximate_sound (Run' at s operands) form = tt
     proximate_sound (And' at s parts) form = tt
     proximate_sound (Or' at s parts) form =
-        if_mapped tree.Or (all_of (proximate_each schema parts)) (Some_of ProximitySound) ProximitySound (some_proximate parts form.0 form.1) or_sound
+        if_mapped tree.Or (all_of (proximate_each schema parts)) AreSomeSound ProximitySound (some_proximate parts form.0 form.1) (λ us h. sound_or us h.0 h.1)
     proximate_sound (Xrank' at s matched t ranked cb) form = tt
 
-    some_proximate : {m : _} (row : Row_of-KRaw m) → AreSome row → HaveForm row → IfOk (all_of (proximate_each schema row)) (Some_of ProximitySound)
+    some_proximate : {m : _} (row : Row_of-KRaw m) → AreSome row → HaveForm row → IfOk (all_of (proximate_each schema row)) AreSomeSound
     some_proximate end_of-KRaw some form = absurd some
     some_proximate (more_of-KRaw part rest) some form =
         if_together (λ x xs. x ∷ xs) (proximate schema part) (all_of (proximate_each schema rest)) ProximitySound (AllByRecursion ProximitySound)
-        (Some_of ProximitySound) (proximate_sound part form.0) (each_proximate rest form.1) (λ x xs h k. (h, k))
+        AreSomeSound (proximate_sound part form.0) (each_proximate rest form.1) (λ x xs h k. (refl, (h, k)))
 
     each_proximate : {m : _} (row : Row_of-KRaw m) → HaveForm row → IfOk (all_of (proximate_each schema row)) (AllByRecursion ProximitySound)
     each_proximate end_of-KRaw form = tt

@@ -1,7 +1,7 @@
 -- The weights and the copies of an FQL proximity expression by its parts as a list, and how code counts them.
-use Rattle.std.proofs.Common.{◌≡◌, ℕ, ◌+◌, ◌*◌, ◌<◌, ◌≤◌, Bool, true, false, not, ◌&&◌, List, [], ◌∷◌, ◌++◌, map, length, drop, get_or, refl, sym, ap, ap₂, subst, ◌∙◌, arith, length-append}
+use Rattle.std.proofs.Common.{◌≡◌, ℕ, ◌*◌, ◌<◌, Bool, true, not, ◌&&◌, List, [], ◌∷◌, map, length, refl, sym, ap, ap₂, ◌∙◌, arith, length-append}
 use Rattle.std.proofs.lemmas.Nat.{mul-le}
-use Rattle.std.specs.Prelude.{max, sum}
+use Rattle.std.specs.Prelude.{sum}
 use Rattle.std.specs.List.{list_all}
 use Rattle.sq_model.specs.Lists.{is_empty, joined}
 use Rattle.sq_model.specs.Triples.{choices}
@@ -12,7 +12,7 @@ use Rattle.sq_model.specs.declared.fql.SpanTree.TheBlock.{hidden-the_row-SpanTre
 use Rattle.sq_typing.specs.SpanForms.{is_filled, are_filled, each_filled}
 use Rattle.sq_typing.proofs.CopiesLemmas.{and_left, and_right, both_true}
 use Rattle.sq_typing.proofs.DistinctLemmas.{some_distinct}
-use Rattle.sq_typing.proofs.SumLemmas.{all_sums, sums_start, sums_on, sums_end, length_sums, length_all_sums}
+use Rattle.sq_typing.proofs.SumLemmas.{all_sums, length_all_sums}
 
 weights_of_row : {m : _} (row : Row_of-SpanTree m) → weights_each row ≡ map weights (items-the_row-SpanTree m row)
 weights_of_row end_of-SpanTree = refl

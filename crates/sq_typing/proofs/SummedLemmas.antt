@@ -1,5 +1,5 @@
 -- Summing the weights of a near's parts from front to back.
-use Rattle.std.proofs.Common.{◌≡◌, ℕ, ◌+◌, ◌*◌, ◌<◌, ◌≤◌, true, List, [], ◌∷◌, map, drop, get_or, length, refl, sym, ap, subst, ◌∙◌, arith}
+use Rattle.std.proofs.Common.{◌≡◌, ℕ, ◌+◌, ◌*◌, ◌<◌, ◌≤◌, true, List, [], ◌∷◌, map, drop, get_or, length, sym, ap, subst, ◌∙◌, arith}
 use Rattle.std.proofs.lemmas.Nat.{mul-le}
 use Rattle.std.proofs.lemmas.List.{drop_all}
 use Rattle.std.specs.Prelude.{max, sum}
@@ -13,7 +13,7 @@ use Rattle.sq_typing.specs.SpanForms.{is_filled}
 use Rattle.sq_typing.proofs.CopiesLemmas.{and_left, and_right, same_count}
 use Rattle.sq_typing.proofs.CountLemmas.{next_of}
 use Rattle.sq_typing.proofs.SumLemmas.{all_sums, sums_start, sums_on, sums_end, length_sums, length_all_sums}
-use Rattle.sq_typing.proofs.SpanLemmas.{has_weight, has_copy, some_list_product}
+use Rattle.sq_typing.proofs.SpanLemmas.{has_weight, some_list_product}
 
 -- the sums over the first parts, and what is to come of the rest
 pub record Summed (sums : List ℕ) (most : ℕ) (rest parts : List SpanTree) : Type 0 where

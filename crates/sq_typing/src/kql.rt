@@ -103,7 +103,14 @@ fn typed(
         } => {
             let relation = relation_of(*relation);
             let test = restriction(
-                alloc, schema, now, *at, name.as_str(), relation, value, upper,
+                alloc,
+                schema,
+                now,
+                *at,
+                name.as_str(),
+                relation,
+                value,
+                upper,
             )?;
             Ok(test)
         }
@@ -181,12 +188,7 @@ fn typed_operands(
 /// What a KQL expression asks of a schema at a moment, in UTC seconds since 1970-01-01T00:00:00Z ([MS-KQL]).
 /// A refusal has the code and the place of the fault that goes first: at the least place, and there the lowest
 /// code, 311 only where there is no other.
-pub fn type_kql(
-    alloc: Global,
-    tree: &KRaw,
-    schema: &Schema,
-    now: i64,
-) -> Result<KTree, Fault>
+pub fn type_kql(alloc: Global, tree: &KRaw, schema: &Schema, now: i64) -> Result<KTree, Fault>
     requires now { now ≡ clamped now }
     requires formed { IsWellFormed tree.now }
     ensures typed { Gives (λ tree. tree) result (spec.typed schema.now now tree.now) }

@@ -7,8 +7,8 @@ ghost use Rattle.sq_typing.specs.KqlValues as spec;
 ghost use Rattle.sq_typing.specs.Together.{together};
 
 use crate::codes::{
-    BAD_DATE, BAD_NUMBER, BAD_YES_NO, NOT_IN_PROXIMITY, NO_TOKEN, NUMBER_OUT_OF_RANGE, UNKNOWN_PROPERTY,
-    WRONG_OPERATOR,
+    BAD_DATE, BAD_NUMBER, BAD_YES_NO, NO_TOKEN, NOT_IN_PROXIMITY, NUMBER_OUT_OF_RANGE,
+    UNKNOWN_PROPERTY, WRONG_OPERATOR,
 };
 use crate::leaves::literal;
 use crate::together::{both, refused};
@@ -68,12 +68,11 @@ pub(crate) fn tested(
 {
     match found(schema, name) {
         None => Err(refused(UNKNOWN_PROPERTY, at)),
-        Some((row, kind)) =>
-            if has_relation(kind, relation) {
-                Ok((row, kind))
-            } else {
-                Err(refused(WRONG_OPERATOR, at))
-            },
+        Some((row, kind)) => if has_relation(kind, relation) {
+            Ok((row, kind))
+        } else {
+            Err(refused(WRONG_OPERATOR, at))
+        },
     }
 }
 
@@ -217,8 +216,11 @@ pub(crate) fn restriction(
         Err(fault) => Ok(Err(fault)),
         Ok((row, Kind::Text)) => text_test(alloc, row, relation, value),
         Ok((row, Kind::Integer)) => Ok(value_test(row, relation, number_bounds(value, upper))),
-        Ok((row, Kind::DateTime)) =>
-            Ok(value_test(row, relation, moment_bounds(now, value, upper))),
+        Ok((row, Kind::DateTime)) => Ok(value_test(
+            row,
+            relation,
+            moment_bounds(now, value, upper),
+        )),
         Ok((row, Kind::YesNo)) => Ok(value_test(row, relation, yes_no_value(value))),
     }
 }

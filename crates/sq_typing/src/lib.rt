@@ -13,3 +13,6 @@ mod span_copies;
 mod together;
 
 pub use kql::type_kql;
+
+#[cfg(test)]
+mod tests;

@@ -1,4 +1,4 @@
-use Rattle.std.proofs.Common.{rules, arith, map, true, subst, ap, ap₂, sym, ◌∙◌, ◌≡◌}
+use Rattle.std.proofs.Common.{arith, map, true, subst, ap, ap₂, sym, ◌∙◌, ◌≡◌}
 use Rattle.std.specs.Prelude.{IfOk}
 use Rattle.std.specs.Int.{w64, cast_signed, cast_unsigned}
 use Rattle.std.specs.List.{All}

@@ -1,4 +1,4 @@
-use Rattle.std.proofs.Common.{rules, map, subst, ap, ap₂, sym, ◌∙◌}
+use Rattle.std.proofs.Common.{map, subst, ap, ap₂, sym, ◌∙◌}
 use Rattle.std.specs.List.{All}
 use Rattle.sq_model.specs.declared.kql.KTree.TheVariants as tree
 use Rattle.sq_typing.specs.Formed.{IsFormed, IsLiteral}

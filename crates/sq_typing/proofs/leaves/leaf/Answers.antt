@@ -1,4 +1,4 @@
-use Rattle.std.proofs.Common.{ap, sym, ◌∙◌}
+use Rattle.std.proofs.Common.{ap}
 use Rattle.sq_typing.specs.KqlValues.{literal}
 use Rattle.sq_typing.proofs.LeafLemmas.{literal_is}
 use Rattle.sq_typing.proofs.leaves.leaf.Goals as goal

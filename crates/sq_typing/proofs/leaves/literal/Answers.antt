@@ -1,4 +1,4 @@
-use Rattle.std.proofs.Common.{ap, Err, sym, ◌∙◌}
+use Rattle.std.proofs.Common.{ap, Err}
 use Rattle.sq_typing.proofs.leaves.literal.Goals as goal
 
 pub unreachable-requires : goal.unreachable-requires
