@@ -1,0 +1,4 @@
+pub mod CopiesLemmas
+mod CountLemmas
+pub mod DistinctLemmas
+pub mod SoundLemmas
