@@ -13,7 +13,8 @@ use Rattle.sq_model.specs.declared.kql.KTree.TheBlock.{shape-the_row-KTree-0, hi
 use Rattle.sq_typing.specs.Forms.{is_filled, are_filled, each_filled, IsCount, HasForms}
 use Rattle.sq_typing.specs.declared.forms.Forms.{Forms}
 use Rattle.sq_typing.specs.declared.forms.Forms.TheVariants.{Many, Few}
-use Rattle.sq_typing.proofs.DistinctLemmas.{distinct_again, some_distinct, some_sums}
+use Rattle.sq_typing.proofs.DistinctLemmas.{distinct_again, some_distinct}
+use Rattle.sq_typing.proofs.SumLemmas.{some_sums}
 
 -- ---- by lists
 
@@ -49,6 +50,9 @@ and_left false b both = both
 pub and_right : (a b : Bool) → (a && b) ≡ true → b ≡ true
 and_right true b both = both
 and_right false b both = cc
+
+pub both_true : (a b : Bool) → a ≡ true → b ≡ true → (a && b) ≡ true
+both_true a b left right = rw (left, right) refl
 
 and_true : (b : Bool) → (b && true) ≡ b
 and_true true = refl

@@ -64,39 +64,3 @@ some_step false m ns found some = omega arith
 pub some_distinct : (ns : List ℕ) → 0 < length ns → 0 < length (distinct ns)
 some_distinct [] some = some
 some_distinct (m ∷ ns) some = some_step (list_any (nat_eq m) ns) m ns refl (some_distinct ns)
-
--- ---- the sums that take one number of each of two lists
-
-singles : (ns : List ℕ) → choices (ns ∷ []) ≡ map (λ n. n ∷ []) ns
-singles [] = refl
-singles (n ∷ ns) = ap (λ rest. (n ∷ []) ∷ rest) (singles ns)
-
-two : (n m : ℕ) → sum (n ∷ m ∷ []) ≡ n + m
-two n m = omega arith
-
-sums_with : (n : ℕ) (ms : List ℕ) → map sum (map (λ chosen. n ∷ chosen) (map (λ m. m ∷ []) ms)) ≡ map (λ m. n + m) ms
-sums_with n [] = refl
-sums_with n (m ∷ ms) = ap₂ (λ k rest. k ∷ rest) (two n m) (sums_with n ms)
-
-sums_of_each : (ns ms : List ℕ) → map sum (flat_map (λ n. map (λ chosen. n ∷ chosen) (map (λ m. m ∷ []) ms)) ns) ≡ flat_map (λ n. map (λ m. n + m) ms) ns
-sums_of_each [] ms = refl
-sums_of_each (n ∷ ns) ms =
-    map-append sum (map (λ chosen. n ∷ chosen) (map (λ m. m ∷ []) ms)) (flat_map (λ n. map (λ chosen. n ∷ chosen) (map (λ m. m ∷ []) ms)) ns)
-    ∙ (rw (sums_with n ms) (ap (λ rest. map (λ m. n + m) ms ++ rest) (sums_of_each ns ms)))
-
-pub sums_of_two : (ns ms : List ℕ) → map sum (choices (ns ∷ ms ∷ [])) ≡ flat_map (λ n. map (λ m. n + m) ms) ns
-sums_of_two ns ms = ap (λ cs. map sum (flat_map (λ n. map (λ chosen. n ∷ chosen) cs) ns)) (singles ms) ∙ sums_of_each ns ms
-
-pub some_sums : (ns ms : List ℕ) → 0 < length ns → 0 < length ms → 0 < length (map sum (choices (ns ∷ ms ∷ [])))
-some_sums [] ms some_n some_m = some_n
-some_sums (n ∷ ns) [] some_n some_m = omega arith
-some_sums (n ∷ ns) (m ∷ ms) some_n some_m = subst (λ sums. 0 < length sums) (sym (sums_of_two (n ∷ ns) (m ∷ ms))) (omega arith)
-
--- the sums with one number behind those with the numbers before it
-pub sums_next : (seen next : List ℕ) (i : ℕ) (ns ms whole : List ℕ) → i < length ns → with_all seen (flat_map (λ n. map (λ m. n + m) ms) (drop i ns)) ≡ whole →
-    next ≡ with_all seen (map (λ m. get_or ns i 0 + m) ms) → with_all next (flat_map (λ n. map (λ m. n + m) ms) (drop (i + 1) ns)) ≡ whole
-sums_next seen next i ns ms whole within before is =
-    let rest = flat_map (λ n. map (λ m. n + m) ms) (drop (i + 1) ns) in
-    let first : drop i ns ≡ get_or ns i 0 ∷ drop (i + 1) ns = rw (add-one, drop-cons ns i 0) refl in
-    ap (λ s. with_all s rest) is
-    ∙ (sym (with_all-append seen (map (λ m. get_or ns i 0 + m) ms) rest) ∙ (ap (λ left. with_all seen (flat_map (λ n. map (λ m. n + m) ms) left)) (sym first) ∙ before))

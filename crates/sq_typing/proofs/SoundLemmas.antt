@@ -1,17 +1,17 @@
 -- A proximity expression that is sound but for its copies is sound where these are at most 256.
-use Rattle.std.proofs.Common.{◌≡◌, ℕ, ◌≤◌, Bool, true, false, not, ◌&&◌, List, refl, ap, arith}
+use Rattle.std.proofs.Common.{◌≡◌, ℕ, ◌≤◌, Bool, true, false, not, List, refl, ap, subst, sym, ◌∙◌, arith}
+use Rattle.std.specs.Prelude.{nat_le}
+use Rattle.std.specs.List.{AllByRecursion}
 use Rattle.std.proofs.lemmas.Bool.{le-leb}
 use Rattle.sq_schema.specs.declared.property.Property.{Property}
 use Rattle.sq_model.specs.KqlCopies.{copies, copies_each}
 use Rattle.sq_model.specs.Copies.{greatest}
 use Rattle.sq_model.specs.KqlSound.{PartsSound, SomeSound, EachSound, is_proximity, are_proximity}
 use Rattle.sq_model.specs.Lists.{is_empty}
-use Rattle.sq_model.specs.declared.kql.KTree.{KTree, Free, Words, Group', Near', Or', Row_of-KTree, end_of-KTree, more_of-KTree}
+use Rattle.sq_model.specs.declared.kql.KTree.{KTree, Free, Words, Group, Near, Or, Group', Near', Or', Row_of-KTree, end_of-KTree, more_of-KTree, items-the_row-KTree, items_hidden-the_row-KTree-2}
+use Rattle.sq_model.specs.declared.kql.KTree.TheBlock.{shape-the_row-KTree-0, hidden-the_row-KTree-0, hidden-the_row-KTree-2}
 use Rattle.sq_typing.specs.Forms.{is_filled, are_filled, each_filled, ProximitySound, SomeProximitySound, EachProximitySound}
-use Rattle.sq_typing.proofs.CopiesLemmas.{near_bounds, has_weight}
-
-both_true : (a b : Bool) → a ≡ true → b ≡ true → (a && b) ≡ true
-both_true a b left right = rw (left, right) refl
+use Rattle.sq_typing.proofs.CopiesLemmas.{both_true, near_bounds, has_weight}
 
 mutual
   pub filled_of_sound : (tree : KTree) → ProximitySound tree → is_filled tree ≡ true
@@ -72,3 +72,26 @@ module _ (schema : List Property) where
     each_of_few : {m : _} (row : Row_of-KTree m) → EachProximitySound row → greatest (copies_each row) ≤ 256 → EachSound schema row
     each_of_few end_of-KTree sound few = tt
     each_of_few (more_of-KTree part rest) sound few = (sound_of_few part sound.0 (omega arith), each_of_few rest sound.1 (omega arith))
+
+-- ---- by lists, as code builds expressions
+
+each_of_items : {m : _} (row : Row_of-KTree m) → AllByRecursion ProximitySound (items-the_row-KTree m row) → EachProximitySound row
+each_of_items end_of-KTree sound = tt
+each_of_items (more_of-KTree part rest) sound = (sound.0, each_of_items rest sound.1)
+
+some_of_items : {m : _} (row : Row_of-KTree m) → is_empty (items-the_row-KTree m row) ≡ false → AllByRecursion ProximitySound (items-the_row-KTree m row) → SomeProximitySound row
+some_of_items end_of-KTree some sound = cc
+some_of_items (more_of-KTree part rest) some sound = (sound.0, each_of_items rest sound.1)
+
+pub sound_or : (parts : List KTree) → is_empty parts ≡ false → AllByRecursion ProximitySound parts → ProximitySound (Or parts)
+sound_or parts some sound =
+    let items = items_hidden-the_row-KTree-2 parts in
+    some_of_items (hidden-the_row-KTree-2 parts) (ap is_empty items ∙ some) (subst (AllByRecursion ProximitySound) (sym items) sound)
+
+pub sound_group : (inside : KTree) → ProximitySound inside → ProximitySound (Group inside)
+unfolding shape-the_row-KTree-0 hidden-the_row-KTree-0 denote.Hole.Carrier.hidden
+sound_group inside sound = (sound, tt)
+
+pub sound_near : (left right : KTree) (n : ℕ) (ordered : Bool) → ProximitySound left → ProximitySound right → nat_le n 1_000 ≡ true → ProximitySound (Near left right n ordered)
+unfolding shape-the_row-KTree-0 hidden-the_row-KTree-0 denote.Hole.Carrier.hidden
+sound_near left right n ordered left_sound right_sound within = ((left_sound, tt), (right_sound, tt), within)

@@ -1,5 +1,6 @@
 -- Proximity expressions of KQL in which no list is empty, and what is known of the forms that they take by the weights of their parts.
-use Rattle.std.specs.Prelude.{◌≡◌, ℕ, ◌<◌, ◌≤◌, nat_eq, nat_le, Bool, true, false, not, ◌&&◌, List, [], ◌∷◌, ◌++◌, filter}
+use Rattle.std.specs.Prelude.{◌≡◌, ℕ, ◌+◌, ◌<◌, ◌≤◌, nat_eq, nat_le, Bool, true, false, not, ◌&&◌, List, [], ◌∷◌, ◌++◌, map, filter}
+use Rattle.std.specs.List.{flat_map}
 use Rattle.sq_model.specs.Lists.{is_empty}
 use Rattle.sq_model.specs.KqlSound.{LeafSound, LeavesSound}
 use Rattle.sq_model.specs.declared.kql.KTree.{KTree, Free, Words, Group', Near', Or', Row_of-KTree, end_of-KTree, more_of-KTree}
@@ -43,6 +44,10 @@ abbrev mutual
   pub EachProximitySound : {m : _} → Row_of-KTree m → Type 0
   EachProximitySound end_of-KTree = Unit {0}
   EachProximitySound (more_of-KTree part rest) = ProximitySound part × EachProximitySound rest
+
+-- each sum that takes one number of each of two lists
+abbrev pub sums_of : List ℕ → List ℕ → List ℕ
+sums_of ns ms = flat_map (λ n. map (λ m. n + m) ms) ns
 
 -- the number behind the others, and at no other place
 abbrev pub with_last : List ℕ → ℕ → List ℕ

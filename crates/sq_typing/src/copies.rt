@@ -119,3 +119,136 @@ pub(crate) fn are_few(alloc: Global, tree: &KTree) -> Result<bool, AllocError>
         Forms::Few { .. } => Ok(true),
     }
 }
+
+#[cfg(test)]
+mod tests {
+    use super::are_few;
+    use sq_base::{List, Text};
+    use sq_model::{KTree, Leaf};
+    use sq_tokens::pattern_of;
+    use sqlite_items::Boxed;
+    use std::alloc::Global;
+    use std::process::Abort;
+    use std::test::Fail;
+
+    const TEXTS: [&str; 17] = [
+        "a",
+        "a a",
+        "a a a",
+        "a a a a",
+        "a a a a a",
+        "a a a a a a",
+        "a a a a a a a",
+        "a a a a a a a a",
+        "a a a a a a a a a",
+        "a a a a a a a a a a",
+        "a a a a a a a a a a a",
+        "a a a a a a a a a a a a",
+        "a a a a a a a a a a a a a",
+        "a a a a a a a a a a a a a a",
+        "a a a a a a a a a a a a a a a",
+        "a a a a a a a a a a a a a a a a",
+        "a a a a a a a a a a a a a a a a a",
+    ];
+
+    const LENGTHS: [usize; 17] = [1, 2, 3, 4, 5, 6, 7, 8, 9, 10, 11, 12, 13, 14, 15, 16, 17];
+
+    /// A list of words of these numbers of tokens.
+    fn words(rt: &impl Abort, alloc: Global, lengths: &[usize]) -> Result<KTree, Fail>
+        ensures { IfOk result (λ tree. is_filled tree ≡ true) }
+    {
+        let mut leaves = List::new(alloc);
+        for tokens in lengths {
+            assert!(rt; 0 < *tokens);
+            assert!(rt; *tokens <= 17);
+            let text = TEXTS[*tokens - 1];
+            assert!(rt; text.len() < 100);
+            leaves.push(Leaf {
+                text: Text::from_str(alloc, text)?,
+                pattern: pattern_of(alloc, text)?,
+            })?;
+        }
+        assert!(rt; leaves.len() != 0);
+        Ok(KTree::Words(leaves))
+    }
+
+    #[tactic(auto, using(crate::proofs::CopiesLemmas::count_rules))]
+    fn near(alloc: Global, left: KTree, right: KTree) -> Result<KTree, Fail>
+        requires left { is_filled left ≡ true }
+        requires right { is_filled right ≡ true }
+        ensures { IfOk result (λ tree. is_filled tree ≡ true) }
+    {
+        Ok(KTree::Near {
+            left: Boxed::new(alloc, left)?,
+            right: Boxed::new(alloc, right)?,
+            n: 8,
+            ordered: false,
+        })
+    }
+
+    #[tactic(auto, using(crate::proofs::CopiesLemmas::count_rules))]
+    fn either(alloc: Global, first: KTree, second: KTree) -> Result<KTree, Fail>
+        requires first { is_filled first ≡ true }
+        requires second { is_filled second ≡ true }
+        ensures { IfOk result (λ tree. is_filled tree ≡ true) }
+    {
+        let mut parts = List::new(alloc);
+        parts.push(first)?;
+        parts.push(second)?;
+        Ok(KTree::Or(parts))
+    }
+
+    fn is_few_near(
+        rt: &impl Abort,
+        alloc: Global,
+        left: &[usize],
+        right: &[usize],
+    ) -> Result<bool, Fail> {
+        let left = words(rt, alloc, left)?;
+        let right = words(rt, alloc, right)?;
+        let tree = near(alloc, left, right)?;
+        Ok(are_few(alloc, &tree)?)
+    }
+
+    #[test]
+    fn a_near_takes_256_forms_at_most(rt: HostRuntime) -> Result<(), Fail> {
+        let alloc = rt.alloc();
+        let sixteen = &LENGTHS[..16];
+        assert!(rt; is_few_near(&rt, alloc, sixteen, sixteen)?);
+        assert!(rt; !is_few_near(&rt, alloc, sixteen, &LENGTHS)?);
+        Ok(())
+    }
+
+    /// Eight weights, and 32 forms.
+    fn eight_weights(rt: &impl Abort, alloc: Global) -> Result<KTree, Fail>
+        ensures { IfOk result (λ tree. is_filled tree ≡ true) }
+    {
+        let one_or_two = words(rt, alloc, &[1, 2])?;
+        let one_or_three = words(rt, alloc, &[1, 3])?;
+        let four_weights = near(alloc, one_or_two, one_or_three)?;
+        let one_or_five = words(rt, alloc, &[1, 5])?;
+        near(alloc, four_weights, one_or_five)
+    }
+
+    /// A near beside eight weights, in an OR with the eight weights alone.
+    fn is_few_beside_eight(
+        rt: &impl Abort,
+        alloc: Global,
+        lengths: &[usize],
+    ) -> Result<bool, Fail> {
+        let left = eight_weights(rt, alloc)?;
+        let right = words(rt, alloc, lengths)?;
+        let first = near(alloc, left, right)?;
+        let second = eight_weights(rt, alloc)?;
+        let tree = either(alloc, first, second)?;
+        Ok(are_few(alloc, &tree)?)
+    }
+
+    #[test]
+    fn a_weight_counts_once_and_copies_multiply(rt: HostRuntime) -> Result<(), Fail> {
+        let alloc = rt.alloc();
+        assert!(rt; is_few_beside_eight(&rt, alloc, &[4, 4, 4])?);
+        assert!(rt; !is_few_beside_eight(&rt, alloc, &[4, 4, 5])?);
+        Ok(())
+    }
+}

@@ -1,8 +1,8 @@
 //! The weights of a proximity expression, and what is known of the forms that it takes by the weights of its parts.
-ghost use Rattle.std.specs.Prelude.{◌≡◌, ◌+◌, ◌*◌, ◌<◌, ◌≤◌, [], ◌∷◌, map, sum, length, IfOk, OnOk, MatchOption};
+ghost use Rattle.std.specs.Prelude.{◌≡◌, ◌+◌, ◌*◌, ◌<◌, ◌≤◌, [], ◌∷◌, ◌++◌, map, sum, length, IfOk, OnOk, MatchOption};
 ghost use Rattle.sq_model.specs.Triples.{choices};
 ghost use Rattle.sq_model.specs.Copies.{distinct, product};
-ghost use Rattle.sq_typing.specs.Forms.{with_last, with_all, IsCount};
+ghost use Rattle.sq_typing.specs.Forms.{sums_of, with_last, with_all, IsCount};
 
 use sq_model::Leaf;
 use std::alloc::{AllocError, Global};
@@ -36,6 +36,14 @@ pub(crate) fn put_all(weights: &mut Vec<u64>, more: &[u64]) -> Result<(), AllocE
     Ok(())
 }
 
+pub(crate) fn each_once(alloc: Global, numbers: &[u64]) -> Result<Vec<u64>, AllocError>
+    ensures { IfOk result (λ found. found.items ≡ distinct numbers.now) }
+{
+    let mut found = Vec::new(alloc);
+    put_all(&mut found, numbers)?;
+    Ok(found)
+}
+
 pub(crate) fn weight_of(alloc: Global, leaf: &Leaf) -> Result<Vec<u64>, AllocError>
     ensures { IfOk result (λ found. found.items ≡ length leaf.now.pattern.texts ∷ []) }
 {
@@ -55,30 +63,34 @@ pub(crate) fn weights_of(alloc: Global, leaves: &[Leaf]) -> Result<Vec<u64>, All
 }
 
 /// Gives up, as for want of memory, where a sum passes 64 bits.
-fn put_sums(weights: &mut Vec<u64>, first: u64, seconds: &[u64]) -> Result<(), AllocError>
-    ensures { OnOk result (weights.new.items ≡ with_all weights.old.items (map (λ second. first + second) seconds.now)) }
+fn add_sums(all: &mut Vec<u64>, first: u64, seconds: &[u64]) -> Result<(), AllocError>
+    ensures { OnOk result (all.new.items ≡ all.old.items ++ map (λ second. first + second) seconds.now) }
 {
     for second in seconds {
         let Some(sum) = first.checked_add(*second) else {
             return Err(AllocError);
         };
-        put_last(weights, sum)?;
+        all.push(sum)?;
     }
     Ok(())
 }
 
-fn sums(alloc: Global, firsts: &[u64], seconds: &[u64]) -> Result<Vec<u64>, AllocError>
-    ensures { IfOk result (λ found. found.items ≡ distinct (map sum (choices (firsts.now ∷ seconds.now ∷ [])))) }
+pub(crate) fn sums_of(
+    alloc: Global,
+    firsts: &[u64],
+    seconds: &[u64],
+) -> Result<Vec<u64>, AllocError>
+    ensures { IfOk result (λ all. all.items ≡ sums_of firsts.now seconds.now) }
 {
-    let mut weights = Vec::new(alloc);
+    let mut all = Vec::new(alloc);
     for first in firsts {
-        put_sums(&mut weights, *first, seconds)?;
+        add_sums(&mut all, *first, seconds)?;
     }
-    Ok(weights)
+    Ok(all)
 }
 
 /// The product of the three, where it is not too many.
-fn few_of(firsts: usize, seconds: usize, greatest: u64) -> Option<u64>
+pub(crate) fn few_of(firsts: usize, seconds: usize, greatest: u64) -> Option<u64>
     requires { 0 < greatest }
     ensures { MatchOption result (256 < firsts * (seconds * 1) * greatest) (λ number. (number ≡ firsts * (seconds * 1) * greatest) × (number ≤ 256)) }
 {
@@ -103,7 +115,8 @@ pub(crate) fn near_forms(
     match few_of(firsts.len(), seconds.len(), greatest) {
         None => Ok(Forms::Many),
         Some(copies) => {
-            let weights = sums(alloc, firsts, seconds)?;
+            let sums = sums_of(alloc, firsts, seconds)?;
+            let weights = each_once(alloc, sums.as_slice())?;
             Ok(Forms::Few { weights, copies })
         }
     }

@@ -3,3 +3,4 @@
 
 mod copies;
 mod forms;
+mod span_copies;

@@ -8,7 +8,7 @@ use Rattle.sq_model.specs.declared.kql.KTree.TheFolds
 use Rattle.sq_typing.specs.declared.forms.Forms.{Forms}
 use Rattle.sq_typing.specs.Forms.{is_filled, IsCount}
 use Rattle.sq_typing.proofs.CopiesLemmas.{filled_inside, filled_parts, filled_left, filled_right, has_forms, same_count, weights_near, copies_near}
-use Rattle.sq_typing.proofs.CountLemmas.{counted_start, part_filled, part_many, part_few}
+use Rattle.sq_typing.proofs.CountLemmas.{counted_start, part_few}
 use Rattle.sq_typing.proofs.copies.+forms.Goals as goal
 
 pub forms_of-forms_of-requires : goal.forms_of-forms_of-requires
@@ -60,12 +60,12 @@ forms_of-returns-in_ok-forms-in-Near t c =
     c.in_ok-left_forms-in-Near.ensures c.in_ok-right_forms-in-Near.ensures)
 
 pub forms_of_some-loop-part-init : goal.forms_of_some-loop-part-init
-forms_of_some-loop-part-init t c = counted_start c.new-weights.result.items c.args.parts.now c.new-weights.ensures.items c.requires
+forms_of_some-loop-part-init t c = counted_start weights copies is_filled c.new-weights.result.items c.args.parts.now c.new-weights.ensures.items c.requires
 
 pub forms_of_some-loop-part-preserved : goal.forms_of_some-loop-part-preserved
 forms_of_some-loop-part-preserved t c =
     let part = c.part-item.result in
     let count = subst (IsCount (weights part) (copies part)) c.in-Few.is c.in_ok-forms_of.ensures in
-    part_few c.loop-part.weights.items c.loop-part.greatest c.loop-part.part-index part c.args.parts.now c.loop-part-test.true c.part-item.is c.loop-part.invariant
+    part_few weights copies is_filled c.loop-part.weights.items c.loop-part.greatest c.loop-part.part-index part c.args.parts.now c.loop-part-test.true c.part-item.is c.loop-part.invariant
     c.as_slice.result.now c.put_all.new.weights.items c.in-Few.copies c.max-greatest.result
     (c.as_slice.ensures.value ∙ count.0) count.1 count.2 c.in_ok-put_all-in-Few.ensures c.max-greatest.ensures
