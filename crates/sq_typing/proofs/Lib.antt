@@ -2,7 +2,12 @@ mod CopiesExamples
 pub mod CopiesLemmas
 mod CountLemmas
 pub mod DistinctLemmas
+pub mod FqlEquations
+pub mod FqlFilled
+pub mod FqlLemmas
+mod FqlTypedExamples
 pub mod SoundLemmas
 pub mod SpanLemmas
 mod SumLemmas
 mod SummedLemmas
+pub mod TogetherLemmas
