@@ -40,6 +40,12 @@ starred_pattern p text i same star =
     ap (λ s. pattern_by p.at s (text_tokens (without_good_star text)) (text_phrase text)) (sym star)
     ∙ ap (λ t. pattern_by p.at (first_bad_star t) (text_tokens (without_good_star t)) (text_phrase t)) same
 
+pub tokenless_pattern : (p : FPiece) → first_bad_star p.text ≡ None → text_tokens (without_good_star p.text) ≡ [] → pattern_in p ≡ refused NO_TOKEN p.at
+unfolding pattern_in
+tokenless_pattern p starless none =
+    ap (λ s. pattern_by p.at s (text_tokens (without_good_star p.text)) (text_phrase p.text)) starless
+    ∙ ap (λ tokens. pattern_by p.at None tokens (text_phrase p.text)) none
+
 -- ---- tokens from front to back
 
 range_from : (i n : ℕ) → i < n → range_with_len i (n - i) ≡ i ∷ range_with_len (i + 1) (n - (i + 1))

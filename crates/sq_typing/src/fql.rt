@@ -128,10 +128,18 @@ fn in_texts(
     ensures { IfOk result (λ tree. tree ≡ spec.in_texts schema.now look at op operands.now) }
 {
     match op {
-        Op::Range { .. } | Op::Int | Op::DateTime =>
-            Ok(Err(barred(look, NEEDS_PROPERTY, WRONG_OPERATOR, at))),
-        Op::Count { from, to } =>
-            Ok(counted(look, from, to, sole_pattern(alloc, schema, operands)?)),
+        Op::Range { .. } | Op::Int | Op::DateTime => Ok(Err(barred(
+            look,
+            NEEDS_PROPERTY,
+            WRONG_OPERATOR,
+            at,
+        ))),
+        Op::Count { from, to } => Ok(counted(
+            look,
+            from,
+            to,
+            sole_pattern(alloc, schema, operands)?,
+        )),
         Op::StartsWith => Ok(edge(look, true, false, sole_pattern(alloc, schema, operands)?)),
         Op::EndsWith => Ok(edge(look, false, true, sole_pattern(alloc, schema, operands)?)),
         Op::Equals => Ok(edge(look, true, true, sole_pattern(alloc, schema, operands)?)),
@@ -155,8 +163,7 @@ fn in_scope(
 {
     match place {
         Place::Texts(look) => in_texts(alloc, schema, look, at, op, operands),
-        Place::Numbers { row, measure } =>
-            Ok(in_numbers(schema, row, measure, at, op, operands)),
+        Place::Numbers { row, measure } => Ok(in_numbers(schema, row, measure, at, op, operands)),
         Place::YesNo(_) => Ok(Err(refused(WRONG_OPERATOR, at))),
     }
 }

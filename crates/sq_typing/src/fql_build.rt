@@ -38,11 +38,7 @@ fn only_tree(trees: List<FTree>) -> Option<FTree>
     ensures { result ≡ spec.only_tree trees }
 {
     let (first, others) = split(trees)?;
-    if others.len() == 0 {
-        Some(first)
-    } else {
-        None
-    }
+    if others.len() == 0 { Some(first) } else { None }
 }
 
 /// An operator of one operand or more.
@@ -64,10 +60,7 @@ fn or_of(trees: List<FTree>) -> Result<FTree, QueryFault>
     Ok(FTree::Or(trees))
 }
 
-fn not_of(
-    alloc: Global,
-    inner: Option<FTree>,
-) -> Result<Result<FTree, QueryFault>, AllocError>
+fn not_of(alloc: Global, inner: Option<FTree>) -> Result<Result<FTree, QueryFault>, AllocError>
     ensures { IfOk result (λ tree. tree ≡ spec.made FTree.Not inner) }
 {
     match inner {
@@ -79,10 +72,7 @@ fn not_of(
     }
 }
 
-fn filter_of(
-    alloc: Global,
-    inner: Option<FTree>,
-) -> Result<Result<FTree, QueryFault>, AllocError>
+fn filter_of(alloc: Global, inner: Option<FTree>) -> Result<Result<FTree, QueryFault>, AllocError>
     ensures { IfOk result (λ tree. tree ≡ spec.made FTree.Filter inner) }
 {
     match inner {

@@ -16,10 +16,7 @@ use sq_schema::Schema;
 use std::alloc::{AllocError, Global};
 
 /// A phrase as a proximity expression.
-fn phrase_span(
-    alloc: Global,
-    operands: &[FRaw],
-) -> Result<Result<SpanTree, QueryFault>, AllocError>
+fn phrase_span(alloc: Global, operands: &[FRaw]) -> Result<Result<SpanTree, QueryFault>, AllocError>
     ensures { IfOk result (λ tree. tree ≡ spec.phrase_span operands.now) }
 {
     match phrase(alloc, operands)? {
@@ -63,8 +60,12 @@ fn lone(
             Mode::And => Ok(Err(refused(NOT_IN_PROXIMITY, at))),
             _ => string_span(alloc, mode, n, operands),
         },
-        Op::Range { .. } | Op::Int | Op::DateTime =>
-            Ok(Err(barred(look, NOT_IN_PROXIMITY, WRONG_OPERATOR, at))),
+        Op::Range { .. } | Op::Int | Op::DateTime => Ok(Err(barred(
+            look,
+            NOT_IN_PROXIMITY,
+            WRONG_OPERATOR,
+            at,
+        ))),
         _ => Ok(Err(refused(NOT_IN_PROXIMITY, at))),
     }
 }
@@ -119,8 +120,12 @@ fn proximate(
     match tree {
         FRaw::All(at) => Ok(Err(barred(look, NOT_IN_PROXIMITY, WRONG_OPERATOR, *at))),
         FRaw::Literal(piece) => span_in(alloc, piece),
-        FRaw::Scope { at, name, inner: _ } =>
-            Ok(Err(misplaced(schema, NOT_IN_PROXIMITY, *at, name.as_str()))),
+        FRaw::Scope { at, name, inner: _ } => Ok(Err(misplaced(
+            schema,
+            NOT_IN_PROXIMITY,
+            *at,
+            name.as_str(),
+        ))),
         FRaw::Apply { at, op, operands } => {
             if joins(*op) {
                 let parts = proximate_each(alloc, schema, look, operands.as_slice())?;

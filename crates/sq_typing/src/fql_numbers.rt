@@ -89,8 +89,12 @@ fn bound(schema: &Schema, measure: Measure, operand: &FRaw) -> Result<Interval, 
     match operand {
         FRaw::All(at) => Err(refused(WRONG_OPERATOR, *at)),
         FRaw::Literal(piece) => value_in(measure, piece),
-        FRaw::Scope { at, name, inner: _ } =>
-            Err(misplaced(schema, WRONG_OPERATOR, *at, name.as_str())),
+        FRaw::Scope { at, name, inner: _ } => Err(misplaced(
+            schema,
+            WRONG_OPERATOR,
+            *at,
+            name.as_str(),
+        )),
         FRaw::Apply { at, op, operands } => literal_value(measure, *at, *op, operands.as_slice()),
     }
 }

@@ -194,8 +194,12 @@ fn one_pattern(
     match operand {
         FRaw::All(at) => Ok(Err(refused(WRONG_OPERATOR, *at))),
         FRaw::Literal(piece) => leaf_in(alloc, piece),
-        FRaw::Scope { at, name, inner: _ } =>
-            Ok(Err(misplaced(schema, WRONG_OPERATOR, *at, name.as_str()))),
+        FRaw::Scope { at, name, inner: _ } => Ok(Err(misplaced(
+            schema,
+            WRONG_OPERATOR,
+            *at,
+            name.as_str(),
+        ))),
         FRaw::Apply { at, op, operands } => phrase_of(alloc, *at, *op, operands.as_slice()),
     }
 }

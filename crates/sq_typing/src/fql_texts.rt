@@ -23,7 +23,10 @@ pub(crate) fn unread() -> QueryFault
 
 /// The pattern of a literal. Gives up, as for want of memory, where it has 2^32 bytes or more.
 #[tactic(auto, unfolding(crate::specs::FqlTexts::pattern_in))]
-pub(crate) fn pattern_in(alloc: Global, piece: &FPiece) -> Result<Result<Pattern, QueryFault>, AllocError>
+pub(crate) fn pattern_in(
+    alloc: Global,
+    piece: &FPiece,
+) -> Result<Result<Pattern, QueryFault>, AllocError>
     ensures { IfOk result (λ pattern. pattern ≡ spec.pattern_in piece.now) }
 {
     let text = piece.text.as_str();
@@ -38,10 +41,7 @@ pub(crate) fn pattern_in(alloc: Global, piece: &FPiece) -> Result<Result<Pattern
     }
 }
 
-pub(crate) fn leaf_in(
-    alloc: Global,
-    piece: &FPiece,
-) -> Result<Result<Leaf, QueryFault>, AllocError>
+pub(crate) fn leaf_in(alloc: Global, piece: &FPiece) -> Result<Result<Leaf, QueryFault>, AllocError>
     ensures { IfOk result (λ leaf. leaf ≡ spec.leaf_in piece.now) }
 {
     match pattern_in(alloc, piece)? {

@@ -11,6 +11,8 @@ mod fql_near;
 mod fql_numbers;
 mod fql_patterns;
 mod fql_place;
+#[cfg(test)]
+mod fql_tests;
 mod fql_texts;
 mod span_copies;
 mod together;
