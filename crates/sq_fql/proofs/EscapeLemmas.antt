@@ -12,11 +12,11 @@ rest_of front is_escape rest = front ++ encode_utf8_all (unescaped is_escape res
 abbrev pub pending : Bool → ℕ
 pending b = cond b 1 0
 
-all-append : (xs ys : List ℕ) → encode_utf8_all (xs ++ ys) ≡ encode_utf8_all xs ++ encode_utf8_all ys
-all-append [] ys = refl
-all-append (x ∷ xs) ys = ap (λ l. encode_utf8 x ++ l) (all-append xs ys) ∙ sym (append_assoc (encode_utf8 x) (encode_utf8_all xs) (encode_utf8_all ys))
+pub all_encoded-append : (xs ys : List ℕ) → encode_utf8_all (xs ++ ys) ≡ encode_utf8_all xs ++ encode_utf8_all ys
+all_encoded-append [] ys = refl
+all_encoded-append (x ∷ xs) ys = ap (λ l. encode_utf8 x ++ l) (all_encoded-append xs ys) ∙ sym (append_assoc (encode_utf8 x) (encode_utf8_all xs) (encode_utf8_all ys))
 
-one : length (encode_utf8 92) ≡ 1
+pub one : length (encode_utf8 92) ≡ 1
 unfolding lib.Utf8.encode
 one = refl
 
@@ -24,7 +24,7 @@ meant_length_by : (b : Bool) (c : ℕ) → length (encode_utf8_all (cond b (c �
 meant_length_by true c = omega (arith, length-append (encode_utf8 c) [])
 meant_length_by false c = omega (arith, one, length-append (encode_utf8 92) (encode_utf8 c ++ []), length-append (encode_utf8 c) [])
 
-meant_length : (c : ℕ) → length (encode_utf8_all (meant c)) ≤ 1 + length (encode_utf8 c)
+pub meant_length : (c : ℕ) → length (encode_utf8_all (meant c)) ≤ 1 + length (encode_utf8 c)
 meant_length c = meant_length_by (c == 34 || c == 92) c
 
 -- The characters of `bytes` are left, of which c is the first, and those of `rest` behind it.
@@ -38,7 +38,7 @@ module _ (front bytes rest : List ℕ) (c : ℕ) (whole : List ℕ) (utf8 : IsUt
   pub step-meant : (is_escape : Bool) → is_escape ≡ true → rest_of front is_escape (chars bytes) ≡ whole → rest_of (front ++ encode_utf8_all (meant c)) false (chars rest) ≡ whole
   step-meant true is kept =
       append_assoc front (encode_utf8_all (meant c)) (encode_utf8_all (unescaped false (chars rest)))
-      ∙ (ap (λ l. front ++ l) (sym (all-append (meant c) (unescaped false (chars rest)))) ∙ (rw first at kept))
+      ∙ (ap (λ l. front ++ l) (sym (all_encoded-append (meant c) (unescaped false (chars rest)))) ∙ (rw first at kept))
   step-meant false is kept = cc
 
   pub short-meant : (n : ℕ) (is_escape : Bool) → is_escape ≡ true → length front + pending is_escape + length bytes ≤ n

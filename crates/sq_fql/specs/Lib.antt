@@ -2,3 +2,4 @@ pub mod Number
 pub mod Operators
 pub mod Parameters
 pub mod Read
+pub mod WellFormed

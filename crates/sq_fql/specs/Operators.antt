@@ -1,5 +1,5 @@
 -- The table of operators: their words, their operands and their parameters.
-use Rattle.std.specs.Prelude.{ℕ, Bool, true, false, if◌then◌else◌, List, [], ◌∷◌, Option, Some, None, codes}
+use Rattle.std.specs.Prelude.{ℕ, true, false, if◌then◌else◌, List, [], ◌∷◌, Option, Some, None, codes}
 use Rattle.std.specs.Str.{str_eq_ignore_ascii_case}
 use Rattle.sq_lex.specs.Bytes.{Text}
 use Rattle.sq_fql.specs.declared.operator.Operator.{Operator}

@@ -1,6 +1,6 @@
 -- Parameters: what their values set, and the operator that they make.
 use Rattle.std.specs.Prelude.{ℕ, ℤ, Bool, true, false, List, [], ◌∷◌, Option, Some, None, Ok, codes}
-use Rattle.std.specs.Option.{option_map, option_and_then}
+use Rattle.std.specs.Option.{option_map}
 use Rattle.sq_lex.specs.Bytes.{Text}
 use Rattle.sq_lex.specs.Outcome.{Outcome, refused, or_refused}
 use Rattle.sq_fql.specs.declared.codes.TheConstants.{BAD_PARAMETER, MAX_BOOST, MAX_COUNT, MAX_NEAR, MISSING_ARGUMENT, NEAR}

@@ -1,5 +1,5 @@
 -- The tree of a text of the FAST Query Language, or its first fault from left to right.
-use Rattle.std.specs.Prelude.{ℕ, zero, suc, ◌+◌, ◌-◌, Bool, true, false, not, ◌&&◌, ◌||◌, nat_le, nat_lt, if◌then◌else◌, List, [], ◌∷◌, ◌++◌, length, slice_index, slice_range, chars, Option, Some, None, is_some, Ok, codes, ◌==◌}
+use Rattle.std.specs.Prelude.{ℕ, zero, suc, ◌+◌, ◌-◌, Bool, true, false, ◌&&◌, ◌||◌, nat_le, nat_lt, if◌then◌else◌, List, [], ◌∷◌, ◌++◌, length, slice_index, slice_range, chars, Option, Some, None, is_some, Ok, codes, ◌==◌}
 use Rattle.std.specs.Char.{is_ascii_alphabetic}
 use Rattle.std.specs.Str.{bytes_eq, encode_utf8_all}
 use Rattle.sq_tokens.specs.Pattern.{first_bad_star}
@@ -8,13 +8,12 @@ use Rattle.sq_lex.specs.declared.fql_lexeme.FKind.TheVariants as kind
 use Rattle.sq_lex.specs.declared.fql_lexeme.FLexeme.{FLexeme}
 use Rattle.sq_lex.specs.Bytes.{Text}
 use Rattle.sq_lex.specs.Fql.{fql_lexemes_of}
-use Rattle.sq_lex.specs.Outcome.{Outcome, refused, ◌>>=◌, ◌>>◌}
+use Rattle.sq_lex.specs.Outcome.{Outcome, refused, ◌>>=◌}
 use Rattle.sq_fql.specs.declared.codes.TheConstants.{EMPTY_QUERY, UNKNOWN_OPERATOR, MISSING_ARGUMENT, EXTRA_ARGUMENT, UNEXPECTED, UNCLOSED_PAREN, TOO_DEEP, OTHER_BOOST, BAD_STAR, MAX_LEVELS}
 use Rattle.sq_fql.specs.declared.raw.FRaw.{FRaw}
 use Rattle.sq_fql.specs.declared.raw.FRaw.TheVariants as tree
 use Rattle.sq_fql.specs.declared.raw.Op.{Op}
 use Rattle.sq_fql.specs.declared.operator.Operator.{Operator}
-use Rattle.sq_fql.specs.declared.operator.Arity.{Arity}
 use Rattle.sq_fql.specs.declared.parameter.Parameter.{Parameter}
 use Rattle.sq_fql.specs.declared.parameter.Parameter.TheVariants as parameter
 use Rattle.sq_fql.specs.declared.parameter.Given.{Given}

@@ -7,6 +7,7 @@ ghost use Rattle.sq_lex.specs.Outcome.{Gives};
 ghost use Rattle.sq_fql.specs.Operators as table;
 ghost use Rattle.sq_fql.specs.Parameters.{nothing_given};
 ghost use Rattle.sq_fql.specs.Read as spec;
+ghost use Rattle.sq_fql.specs.WellFormed.{IsWellFormed};
 
 use crate::codes::{
     EMPTY_QUERY, EXTRA_ARGUMENT, MAX_LEVELS, MISSING_ARGUMENT, OTHER_BOOST, TOO_DEEP, UNEXPECTED,
@@ -19,7 +20,7 @@ use crate::operator::{Operator, operands_of, operator_of};
 use crate::parameter::{Given, Parameter, nothing_given, operation, parameter_named, with_value};
 use crate::raw::{FRaw, Op};
 use sq_base::{Fault, List, QueryFault};
-use sq_lex::{FLexeme, fql_lexemes};
+use sq_lex::{FLexeme, fql_lexemes, fql_lexemes_are_sound};
 use sqlite_items::Boxed;
 use std::alloc::{AllocError, Global};
 
@@ -372,11 +373,15 @@ fn whole_of(alloc: Global, text: &str, lexemes: &[FLexeme]) -> Result<FRaw, Faul
     }
 }
 
-/// The tree of a text, or its first fault: of its lexemes, and then of their order.
+/// The tree of a text of the FAST Query Language, or its first fault: 201 or 203 of its lexemes, else the first of 202 and
+/// 204 to 212 from left to right, the lower code where one lexeme finds two. A place is a number of bytes from the text's start.
 #[tactic(auto, unfolding(crate::specs::Read::read_of))]
 pub fn read_fql(alloc: Global, text: &str) -> Result<FRaw, Fault>
-    ensures { Gives (λ tree. tree) result (spec.read_of text.now) }
+    ensures value { Gives (λ tree. tree) result (spec.read_of text.now) }
+    ensures well_formed { IfOk result IsWellFormed }
 {
     let lexemes = fql_lexemes(alloc, text)?;
-    whole_of(alloc, text, lexemes.as_slice())
+    let tree = whole_of(alloc, text, lexemes.as_slice())?;
+    fql_lexemes_are_sound();
+    Ok(tree)
 }

@@ -9,3 +9,5 @@ pub mod SoundLemmas
 pub mod PlaceLemmas
 pub mod FqlLoopLemmas
 pub mod FqlWholeLemmas
+pub mod FqlSoundLemmas
+mod FqlExamples

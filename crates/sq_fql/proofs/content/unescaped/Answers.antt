@@ -1,4 +1,4 @@
-use Rattle.std.proofs.Common.{◌∙◌, length, string_bytes}
+use Rattle.std.proofs.Common.{length, string_bytes}
 use Rattle.std.specs.Str.Iter.{chars_rest}
 use Rattle.std.proofs.lemmas.Str.{IsUtf8-past_char}
 use Rattle.sq_fql.proofs.EscapeLemmas.{step-meant, short-meant, step-backslash, short-backslash, step-plain, short-plain}

@@ -1,4 +1,4 @@
-use Rattle.std.proofs.Common.{◌∙◌, sym, ap, Ok, arith}
+use Rattle.std.proofs.Common.{◌∙◌, sym, ap, arith}
 use Rattle.std.proofs.lemmas.Result.{err_from_is_err_and}
 use Rattle.sq_fql.specs.Operators.{operator_of}
 use Rattle.sq_fql.proofs.ListLemmas.{lists_on, lists_end, lists_unseparated, lists_fails, scope_too_deep, scope_fails, scope_read, list_too_deep, list_fails, list_incomplete, list_read}

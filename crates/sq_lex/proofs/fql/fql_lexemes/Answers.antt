@@ -23,7 +23,7 @@ text-preserved c =
     let place = c.in_ok-lexeme.ensures.place in
     let on = c.past-at-in-text.ensures in (
       reads_on _ _ _ _ c.in_ok-lexeme.lexeme _ c.text.invariant.0 c.text-test.true (sym c.in_ok-lexeme.ensures.value) now on.value (omega (arith, place.1, on.within.0))
-      (on.between c.in_ok-lexeme.ensures.whole.piece.end) on.stops,
+          (on.between c.in_ok-lexeme.ensures.whole.piece.end) on.stops,
       pieces_push _ _ _ _ c.text.invariant.1 c.in_ok-lexeme.ensures.whole now,
     )
 
