@@ -49,7 +49,7 @@ near_filled ts n ordered h = built_near ts n ordered ∙ both_true (not (is_empt
 
 -- ---- strings
 
-abbrev HasToken : Leaf → Type 0
+abbrev pub HasToken : Leaf → Type 0
 HasToken whole = 0 < length whole.pattern.texts
 
 pattern_by : (at : ℕ) (star : Option ℕ) (tokens : List Token) (prefixed : Bool) →

@@ -5,6 +5,7 @@ pub mod DistinctLemmas
 pub mod FqlEquations
 pub mod FqlFilled
 pub mod FqlLemmas
+pub mod FqlSound
 mod FqlTypedExamples
 pub mod SoundLemmas
 pub mod SpanLemmas
