@@ -9,6 +9,11 @@ pub mod LeafLemmas
 pub mod NodeLemmas
 pub mod ProximateLemmas
 mod SizeLemmas
+pub mod FqlEquations
+pub mod FqlFilled
+pub mod FqlLemmas
+pub mod FqlSound
+mod FqlTypedExamples
 pub mod SoundLemmas
 pub mod SpanLemmas
 mod SumLemmas

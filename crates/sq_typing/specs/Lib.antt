@@ -1,5 +1,9 @@
 pub mod Formed
 pub mod Forms
+pub mod Fql
+pub mod FqlNumbers
+pub mod FqlPlaces
+pub mod FqlTexts
 pub mod Kql
 pub mod KqlValues
 pub mod SpanForms
