@@ -1,3 +1,4 @@
 mod FilterLemmas
 mod HitLemmas
 mod HitsLemmas
+mod ReplyLemmas

@@ -1,21 +1,29 @@
 -- What the words of a command line ask for.
-use Rattle.std.specs.Prelude.{ℕ, Bool, ◌&&◌, List, [], ◌∷◌, Option, Some, None, codes, if◌then◌else◌}
+use Rattle.std.specs.Prelude.{ℕ, List, [], ◌∷◌, Option, Some, None, codes, if◌then◌else◌}
 use Rattle.std.specs.Str.{bytes_eq}
 use Rattle.sq_cli.specs.declared.command.Command.{Command}
 use Rattle.sq_cli.specs.declared.command.Command.TheVariants.{Check, Ask}
+use Rattle.sq_cli.specs.declared.command.Language.{Language}
+use Rattle.sq_cli.specs.declared.command.Language.TheVariants.{Kql, Fql}
 
 -- what the words ask for, by the texts of the words
 pub data Order : Type 0 where
   Checking : Order
-  Asking : List ℕ → List ℕ → Order
+  Asking : List ℕ → Language → List ℕ → Order
+
+abbrev pub language_of : List ℕ → Option Language
+language_of word = if bytes_eq word (codes "kql") then Some Kql else (if bytes_eq word (codes "fql") then Some Fql else None)
+
+abbrev pub asking : List ℕ → Option Language → List ℕ → Option Order
+asking caller None text = None
+asking caller (Some language) text = Some (Asking caller language text)
 
 abbrev pub order_of : List (List ℕ) → Option Order
 order_of (word ∷ []) = if bytes_eq word (codes "check") then Some Checking else None
-order_of (word ∷ caller ∷ language ∷ text ∷ []) =
-    if bytes_eq word (codes "ask") && bytes_eq language (codes "kql") then Some (Asking caller text) else None
+order_of (word ∷ caller ∷ language ∷ text ∷ []) = if bytes_eq word (codes "ask") then asking caller (language_of language) text else None
 order_of words = None
 
 -- a command without its references
-abbrev pub plain : Command → Order
+unfoldable pub plain : Command → Order
 plain Check = Checking
-plain (Ask caller text) = Asking caller.now text.now
+plain (Ask caller language text) = Asking caller.now language text.now

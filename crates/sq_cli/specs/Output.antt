@@ -52,11 +52,11 @@ answer_outcome Unknown = record { status = 1; text = fault_text 511 0 }
 answer_outcome (Faulty fault) = record { status = 1; text = fault_text fault.code fault.at }
 
 -- what is written of a corpus that was read, or of its first faulty line
-abbrev pub corpus_outcome : Order → ℤ → Result Corpus LineFault → Outcome
+unfoldable pub corpus_outcome : Order → ℤ → Result Corpus LineFault → Outcome
 corpus_outcome order moment (Err fault) = record { status = 3; text = corpus_fault_text fault.code fault.line }
 corpus_outcome Checking moment (Ok corpus) =
     record { status = 0; text = check_text (length corpus.schema) (length corpus.callers) (length corpus.items) }
-corpus_outcome (Asking caller text) moment (Ok corpus) = answer_outcome (verdict corpus caller (clamped moment) text)
+corpus_outcome (Asking caller language text) moment (Ok corpus) = answer_outcome (verdict corpus caller (clamped moment) language text)
 
 -- what an order writes over the bytes of a corpus
 abbrev pub order_outcome : Order → ℤ → List ℕ → Outcome

@@ -6,15 +6,12 @@ ghost use Rattle.sq_model.specs.declared.corpus.Item.{Item as ItemOf};
 ghost use Rattle.sq_cli.specs.Verdict as spec;
 ghost use Rattle.sq_schema.specs.Intervals.{clamped};
 ghost use Rattle.sq_cli.specs.Answers.{Answers};
-ghost use Rattle.sq_cli.specs.Query.{GivesTree, kql_query};
 
+use crate::command::Language;
 use crate::hit::Hit;
+use crate::query::{Query, query_boost, query_holds, query_of};
 use sq_base::{Fault, QueryFault, Text};
-use sq_kql::read_kql;
-use sq_model::{Caller, Corpus, KTree, admits};
-use sq_schema::Schema;
-use sq_slow::{kql_boost_slow, kql_holds_slow};
-use sq_typing::type_kql;
+use sq_model::{Caller, Corpus, admits};
 use std::alloc::{AllocError, Global};
 
 /// Why a request isn't answered.
@@ -53,22 +50,22 @@ fn hit_of(
     alloc: Global,
     corpus: &Corpus,
     claims: &[Text],
-    tree: &KTree,
+    query: &Query,
     row: u32,
 ) -> Result<Option<Hit>, AllocError>
     requires row { row < length corpus.now.items }
     requires short { list_all has_short_texts corpus.now.items ≡ true }
     ensures { IfOk result (λ hit. (item : ItemOf) → slice_get corpus.now.items row ≡ Some item
-        → hit ≡ spec.hit_in corpus.now.schema claims.now tree.now item) }
+        → hit ≡ spec.hit_in corpus.now.schema claims.now query.now item) }
 {
     let item = &corpus.items.as_slice()[row as usize];
     if !admits(claims, item) {
         return Ok(None);
     }
-    if !kql_holds_slow(alloc, corpus, tree, row)? {
+    if !query_holds(alloc, corpus, query, row)? {
         return Ok(None);
     }
-    let boost = kql_boost_slow(alloc, corpus, tree, row)?;
+    let boost = query_boost(alloc, corpus, query, row)?;
     match item.rank.checked_add(boost) {
         Some(score) => Ok(Some(Hit {
             number: item.number,
@@ -84,15 +81,15 @@ fn add_hit(
     hits: &mut Vec<Hit>,
     corpus: &Corpus,
     claims: &[Text],
-    tree: &KTree,
+    query: &Query,
     row: u32,
 ) -> Result<(), AllocError>
     requires row { row < length corpus.now.items }
     requires short { list_all has_short_texts corpus.now.items ≡ true }
     ensures { OnOk result ((item : ItemOf) → slice_get corpus.now.items row ≡ Some item
-        → hits.new.items ≡ hits.old.items ++ option_to_list (spec.hit_in corpus.now.schema claims.now tree.now item)) }
+        → hits.new.items ≡ hits.old.items ++ option_to_list (spec.hit_in corpus.now.schema claims.now query.now item)) }
 {
-    if let Some(hit) = hit_of(alloc, corpus, claims, tree, row)? {
+    if let Some(hit) = hit_of(alloc, corpus, claims, query, row)? {
         hits.push(hit)?;
     }
     Ok(())
@@ -103,60 +100,43 @@ fn hits_of(
     alloc: Global,
     corpus: &Corpus,
     claims: &[Text],
-    tree: &KTree,
+    query: &Query,
 ) -> Result<Vec<Hit>, AllocError>
     requires { list_all has_short_texts corpus.now.items ≡ true }
-    ensures { IfOk result (λ hits. hits.items ≡ spec.answer corpus.now claims.now tree.now) }
+    ensures { IfOk result (λ hits. hits.items ≡ spec.answer corpus.now claims.now query.now) }
 {
     let Ok(count) = u32::try_from(corpus.items.len()) else {
         return Err(AllocError);
     };
     let mut hits = Vec::new(alloc);
     for row in 0..count {
-        add_hit(alloc, &mut hits, corpus, claims, tree, row)?;
+        add_hit(alloc, &mut hits, corpus, claims, query, row)?;
     }
     Ok(hits)
 }
 
-/// The typed tree of a query.
-#[tactic(auto, unfolding(crate::specs::Query::kql_query))]
-fn query_of(alloc: Global, schema: &Schema, text: &str, now: i64) -> Result<KTree, Fault>
-    requires { now ≡ clamped now }
-    ensures { GivesTree (kql_query schema.now now text.now) result }
-{
-    let raw = match read_kql(alloc, text) {
-        Ok(raw) => raw,
-        Err(Fault::Query(fault)) => return Err(Fault::Query(fault)),
-        Err(Fault::NoMemory) => return Err(Fault::NoMemory),
-    };
-    match type_kql(alloc, &raw, schema, now) {
-        Ok(tree) => Ok(tree),
-        Err(Fault::Query(fault)) => Err(Fault::Query(fault)),
-        Err(Fault::NoMemory) => Err(Fault::NoMemory),
-    }
-}
-
-/// Answers a KQL text for the caller of this name at a moment, in UTC seconds since
-/// 1970-01-01T00:00:00Z.
+/// Answers a text for the caller of this name at a moment, in UTC seconds since 1970-01-01T00:00:00Z.
+#[tactic(auto, unfolding(crate::specs::Verdict::verdict))]
 pub fn answer(
     alloc: Global,
     corpus: &Corpus,
     name: &str,
+    language: Language,
     text: &str,
     now: i64,
 ) -> Result<Vec<Hit>, Refused>
     requires short { list_all has_short_texts corpus.now.items ≡ true }
     requires now { now ≡ clamped now }
-    ensures { Answers (spec.verdict corpus.now name.now now text.now) result }
+    ensures { Answers (spec.verdict corpus.now name.now now language text.now) result }
 {
     let Some(caller) = caller_named(corpus.callers.as_slice(), name) else {
         return Err(Refused::UnknownCaller);
     };
-    let tree = match query_of(alloc, &corpus.schema, text, now) {
-        Ok(tree) => tree,
+    let query = match query_of(alloc, &corpus.schema, language, text, now) {
+        Ok(query) => query,
         Err(Fault::Query(fault)) => return Err(Refused::Query(fault)),
         Err(Fault::NoMemory) => return Err(Refused::NoMemory),
     };
-    let hits = hits_of(alloc, corpus, caller.claims.as_slice(), &tree)?;
+    let hits = hits_of(alloc, corpus, caller.claims.as_slice(), &query)?;
     Ok(hits)
 }

@@ -12,7 +12,7 @@ ghost use Rattle.sq_cli.specs.Output.{output, order_outcome, corpus_outcome, ans
 ghost use Rattle.sq_corpus.specs.CorpusText.{corpus_of};
 
 use crate::answer::{Refused, answer};
-use crate::command::{Command, command_of};
+use crate::command::{Command, Language, command_of};
 use crate::reply::{check_line, corpus_fault_line, fault_line, found_lines};
 use sq_base::{Failed, ReadAll, Sink, Source, read_all, write_all};
 use sq_corpus::{CorpusFault, read_corpus};
@@ -52,15 +52,16 @@ fn ask_reply(
     alloc: Global,
     corpus: &Corpus,
     caller: &str,
+    language: Language,
     text: &str,
     now: i64,
 ) -> Result<Reply, AllocError>
     requires short { list_all has_short_texts corpus.now.items ≡ true }
     requires now { now ≡ moment now }
-    ensures reply { IfOk result (IsReply (answer_outcome (spec.verdict corpus.now caller.now now text.now))) }
+    ensures reply { IfOk result (IsReply (answer_outcome (spec.verdict corpus.now caller.now now language text.now))) }
     ensures status { IfOk result (λ reply. reply.status ≤ 1) }
 {
-    match answer(alloc, corpus, caller, text, now) {
+    match answer(alloc, corpus, caller, language, text, now) {
         Ok(hits) => Ok(Reply {
             status: 0,
             text: found_lines(alloc, hits)?,
@@ -78,6 +79,7 @@ fn ask_reply(
 }
 
 /// Does what is asked of a corpus that was read.
+#[tactic(auto, unfolding(crate::specs::Output::corpus_outcome, crate::specs::Command::plain))]
 fn corpus_reply(
     alloc: Global,
     corpus: &Corpus,
@@ -98,14 +100,19 @@ fn corpus_reply(
                 corpus.items.len(),
             )?,
         }),
-        Command::Ask { caller, text } => {
-            let reply = ask_reply(alloc, corpus, caller, text, clamped(now))?;
+        Command::Ask {
+            caller,
+            language,
+            text,
+        } => {
+            let reply = ask_reply(alloc, corpus, caller, language, text, clamped(now))?;
             Ok(reply)
         }
     }
 }
 
 /// Reads the bytes of a corpus, and makes the whole reply.
+#[tactic(auto, unfolding(crate::specs::Output::corpus_outcome))]
 fn bytes_reply(alloc: Global, bytes: &[u8], command: Command, now: i64) -> Result<Reply, AllocError>
     requires { length bytes.now ≤ 67_108_864 }
     ensures reply { IfOk result (IsReply (corpus_outcome (plain command.entry) now (corpus_of bytes.now))) }

@@ -7,10 +7,10 @@ use Rattle.sq_cli.proofs.answer.hits_of.Goals as goal
 pub loop-row-preserved : goal.loop-row-preserved
 loop-row-preserved c =
     let within : c.loop-row.row < length c.args.corpus.now.items = search rules in
-    one_more (hit_in c.args.corpus.now.schema c.args.claims.now c.args.tree.now) c.args.corpus.now.items _ _ _ _ within c.in_ok-add_hit.ensures c.loop-row.invariant
+    one_more (hit_in c.args.corpus.now.schema c.args.claims.now c.args.query.now) c.args.corpus.now.items _ _ _ _ within c.in_ok-add_hit.ensures c.loop-row.invariant
 
 pub returns : goal.returns
 returns c =
     let past : length c.args.corpus.now.items ≤ c.loop-row.row = search rules in
-    none_left (hit_in c.args.corpus.now.schema c.args.claims.now c.args.tree.now) c.args.corpus.now.items _ _ _ past c.loop-row.invariant
-    ∙ item_by_item c.args.corpus.now.schema c.args.claims.now c.args.tree.now c.args.corpus.now.items
+    none_left (hit_in c.args.corpus.now.schema c.args.claims.now c.args.query.now) c.args.corpus.now.items _ _ _ past c.loop-row.invariant
+    ∙ item_by_item c.args.corpus.now.schema c.args.claims.now c.args.query.now c.args.corpus.now.items
