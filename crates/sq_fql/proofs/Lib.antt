@@ -1,4 +1,5 @@
 pub mod CanonEquations
+mod CanonExamples
 mod CanonLawLemmas
 mod CanonLexLemmas
 mod CanonNumberLemmas

@@ -265,6 +265,7 @@ fn push_operands(text: &mut String, trees: &[FRaw]) -> Result<(), AllocError>
 }
 
 /// The canonical text of a tree: no white space, operands before parameters, and one way to write each literal, operator and parameter.
+/// The only error is want of memory. It calls itself as deep as the tree is.
 pub fn print_fql(alloc: Global, tree: &FRaw) -> Result<Text, AllocError>
     ensures value { IfOk result (λ text. text ≡ spec.canon tree.now) }
     ensures reads_back { IfOk result (λ text. ReadsBack text tree.now) }
