@@ -32,5 +32,5 @@ long_reply order now None after read reply taken many status text = tt
 long_reply order now (Some bytes) None read reply taken many status text = absurd taken
 long_reply order now (Some bytes) (Some rest) read reply taken many status text =
     let long : nat_le (length bytes) 67_108_864 ≡ false =
-      past (length bytes) (length rest) (ap length taken ∙ length-append read rest ∙ ap (λ n. n + length rest) many) in
+    past (length bytes) (length rest) (ap length taken ∙ length-append read rest ∙ ap (λ n. n + length rest) many) in
     rw long (record { status = status; text = text })

@@ -74,7 +74,7 @@ fn asked(
 }
 
 #[test]
-fn texts_are_answered_or_refused(rt: HostRuntime) -> Result<(), Fail> {
+fn kql_texts_are_answered_or_refused(rt: HostRuntime) -> Result<(), Fail> {
     let alloc = rt.alloc();
     let table: [(&str, &str, &str); 55] = [
         ("Ann", "debt", "total 1\nitem 2 score 20\n"),
@@ -198,6 +198,117 @@ fn texts_are_answered_or_refused(rt: HostRuntime) -> Result<(), Fail> {
     Ok(())
 }
 
+#[test]
+fn fql_texts_are_answered_or_refused(rt: HostRuntime) -> Result<(), Fail> {
+    let alloc = rt.alloc();
+    let table: [(&str, &str, &str); 45] = [
+        ("Ann", "*", "total 2\nitem 2 score 20\nitem 1 score 10\n"),
+        (
+            "Bob",
+            "near(or(\"old bank\",merger),new,N=2)",
+            "total 1\nitem 1 score 10\n",
+        ),
+        ("Bob", "near(or(\"old bank\",merger),new,N=1)", "total 0\n"),
+        (
+            "Bob",
+            "near(merger,merger,N=0)",
+            "total 1\nitem 1 score 10\n",
+        ),
+        (
+            "Bob",
+            "near(merger,or(\"old bank\",bank),N=2)",
+            "total 1\nitem 1 score 10\n",
+        ),
+        ("Bob", "near(merger,old,new,N=4)", "total 0\n"),
+        ("Bob", "onear(\"old bank\",bank,N=2)", "total 0\n"),
+        (
+            "Bob",
+            "near(or(\"old bank\",merger),or(\"old bank\",merger),or(\"old bank\",merger),or(\"old bank\",merger),or(\"old bank\",merger),or(\"old bank\",merger),or(\"old bank\",merger),or(\"old bank\",merger))",
+            "total 1\nitem 1 score 10\n",
+        ),
+        (
+            "Bob",
+            "xrank(debt,before,acquisition,cb=5)",
+            "total 2\nitem 2 score 25\nitem 3 score 25\n",
+        ),
+        ("Bob", "not(debt)", "total 1\nitem 1 score 10\n"),
+        ("Bob", "andnot(debt,before)", "total 1\nitem 2 score 20\n"),
+        ("Ann", "filter(debt)", "total 1\nitem 2 score 20\n"),
+        (
+            "Bob",
+            "words(debt,merger)",
+            "total 3\nitem 2 score 20\nitem 3 score 20\nitem 1 score 10\n",
+        ),
+        ("Bob", "phrase(old,\"ban*\")", "total 1\nitem 1 score 10\n"),
+        (
+            "Bob",
+            "string(\"old new\",mode=\"AND\")",
+            "total 1\nitem 1 score 10\n",
+        ),
+        ("Bob", "count(bank,from=2)", "total 1\nitem 1 score 10\n"),
+        ("Bob", "count(bank,from=1,to=2)", "total 0\n"),
+        (
+            "Bob",
+            "body:starts-with(\"debt before\")",
+            "total 1\nitem 3 score 20\n",
+        ),
+        ("Bob", "body:ends-with(debt)", "total 1\nitem 2 score 20\n"),
+        (
+            "Bob",
+            "title:equals(\"debt notes\")",
+            "total 1\nitem 2 score 20\n",
+        ),
+        (
+            "Bob",
+            "size:range(6,max)",
+            "total 2\nitem 2 score 20\nitem 3 score 20\n",
+        ),
+        ("Bob", "size:range(5,7,from=GT,to=LT)", "total 0\n"),
+        (
+            "Ann",
+            "write:range(2024-02-29,\"2024-03-01\")",
+            "total 1\nitem 2 score 20\n",
+        ),
+        ("Ann", "write:2024-02-29", "total 1\nitem 2 score 20\n"),
+        (
+            "Ann",
+            "size:or(5,int(7))",
+            "total 2\nitem 2 score 20\nitem 1 score 10\n",
+        ),
+        ("Ann", "public:true", "total 0\n"),
+        ("Ann", "", "fault 202 at 0\n"),
+        ("Ann", "\"a", "fault 203 at 0\n"),
+        ("Ann", "foo(a)", "fault 204 at 0\n"),
+        ("Ann", "and(a,", "fault 205 at 6\n"),
+        ("Ann", "not(a,b)", "fault 206 at 6\n"),
+        ("Ann", "near(a,b,N=x)", "fault 207 at 9\n"),
+        ("Ann", "a b", "fault 208 at 2\n"),
+        ("Ann", "and(a", "fault 209 at 5\n"),
+        ("Ann", "xrank(a,b,rb=1)", "fault 211 at 10\n"),
+        ("Ann", "\"a*b\"", "fault 212 at 0\n"),
+        ("Ann", "colour:red", "fault 301 at 0\n"),
+        ("Ann", "title:*", "fault 302 at 6\n"),
+        ("Ann", "size:99999999999999999999", "fault 304 at 5\n"),
+        ("Ann", "\"&\"", "fault 307 at 0\n"),
+        ("Ann", "near(a,and(b,c))", "fault 308 at 7\n"),
+        ("Ann", "title:body:x", "fault 309 at 6\n"),
+        ("Ann", "int(5)", "fault 310 at 0\n"),
+        (
+            "Bob",
+            "near(or(\"old bank\",merger),or(\"old bank\",merger),or(\"old bank\",merger),or(\"old bank\",merger),or(\"old bank\",merger),or(\"old bank\",merger),or(\"old bank\",merger),or(\"old bank\",merger),or(\"old bank\",merger))",
+            "fault 311 at 0\n",
+        ),
+        ("Zed", "(", "fault 511 at 0\n"),
+    ];
+    for (caller, text, sent) in table {
+        let corpus = source_of(alloc, "", "", false)?;
+        let (status, written) = asked(alloc, corpus, &["ask", caller, "fql", text])?;
+        assert_eq!(rt; status, sent.starts_with("fault") as u8, "at {text}");
+        assert_eq!(rt; written.as_slice(), sent.as_bytes(), "at {text}");
+    }
+    Ok(())
+}
+
 /// Other words, and the worked corpus with one text in another's place.
 #[test]
 fn words_have_their_status_and_text(rt: HostRuntime) -> Result<(), Fail> {
@@ -256,7 +367,7 @@ fn words_have_their_status_and_text(rt: HostRuntime) -> Result<(), Fail> {
         ),
         (&[], ("", ""), 2, ""),
         (&["ask", "Ann"], ("", ""), 2, ""),
-        (&["ask", "Ann", "fql", "debt"], ("", ""), 2, ""),
+        (&["ask", "Ann", "sql", "debt"], ("", ""), 2, ""),
         (&["check", "all"], ("", ""), 2, ""),
         (&["--help"], ("", ""), 2, ""),
     ];
