@@ -1,12 +1,12 @@
 -- The year and the month of a day of these years, whether or not a date is known of it.
-use Rattle.std.proofs.Common.{◌≡◌, ℕ, zero, suc, ◌+◌, ◌≤◌, Bool, true, false, cond, refl, arith, lit≤, ℤ, pos, ◌+ℤ◌, ◌≤ℤ◌, ◌<ℤ◌, List, inl, inr}
+use Rattle.std.proofs.Common.{◌≡◌, ℕ, zero, suc, ◌+◌, ◌<◌, ◌≤◌, Bool, true, false, cond, refl, arith, lit≤, ℤ, pos, ◌+ℤ◌, ◌≤ℤ◌, ◌<ℤ◌, ap, sym, List, inl, inr}
 use Rattle.std.specs.Prelude.{int_le, IfSome}
 use Rattle.std.proofs.lemmas.Int.{ints, clamps, by_lt_z}
 use Rattle.std.proofs.lemmas.Bool.{cases_lt}
 use Rattle.jiff.specs.Words.{IsBetween}
 use Rattle.jiff_core.specs.Calendar.{days_from_civil, day_count, days_of_years, days_of_months, days_in_month}
 use Rattle.jiff_core.proofs.SignedLemmas.{signed_arith}
-use Rattle.sq_schema.specs.Intervals.{clamped, year_from, month_from, day_of_moment, moment_interval}
+use Rattle.sq_schema.specs.Intervals.{clamped, year_from, month_from, day_of_moment, interval_in, moment_interval}
 use Rattle.sq_schema.specs.Moments.{IsInYears}
 use Rattle.sq_schema.proofs.YearLemmas.{interval_in-within}
 
