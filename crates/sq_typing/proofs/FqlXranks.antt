@@ -1,5 +1,5 @@
 -- A typed tree of FQL has no more xrank than its raw tree.
-use Rattle.std.proofs.Common.{◌≡◌, ℕ, zero, suc, ◌+◌, ◌≤◌, Bool, true, false, List, [], ◌∷◌, map, length, Option, Some, None, refl, sym, ap, ◌∙◌, arith}
+use Rattle.std.proofs.Common.{◌≡◌, ℕ, zero, suc, ◌+◌, ◌≤◌, Bool, true, false, List, [], ◌∷◌, map, length, Option, Some, None, refl, ap, ◌∙◌, arith}
 use Rattle.std.specs.Prelude.{Ok, Err, IfOk, IfSome, if◌then◌else◌, nat_le, ℤ, sum}
 use Rattle.std.specs.List.{range_with_len}
 use Rattle.std.proofs.lemmas.List.Sums.{sum_by-cons}
@@ -30,7 +30,7 @@ use Rattle.sq_typing.specs.FqlPlaces.{entered}
 use Rattle.sq_typing.specs.FqlTexts.{listed, leaf_in, string, single_leaf, for_tokens, all_tokens, sole_pattern}
 use Rattle.sq_typing.specs.FqlNumbers.{value_in, yes_no_in, within, numbers}
 use Rattle.sq_typing.specs.Fql.{proximity, proximate, with_few_copies, outermost, every_token, in_texts, in_scope, is_for_all, made, some_trees, only_tree, first_and_others, combined, combined_all, applied, every_item, literal, typed_at, typed_each}
-use Rattle.sq_typing.proofs.TogetherLemmas.{if_mapped, if_together}
+use Rattle.sq_typing.proofs.TogetherLemmas.{if_together}
 
 abbrev all_xranks : List FTree → ℕ
 all_xranks [] = 0
