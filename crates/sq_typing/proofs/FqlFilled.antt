@@ -1,16 +1,16 @@
 -- In a proximity expression of FQL that typing gives, no list is empty.
-use Rattle.std.proofs.Common.{◌≡◌, ℕ, zero, suc, ◌+◌, ◌<◌, Bool, true, false, not, ◌&&◌, List, [], ◌∷◌, map, length, Option, Some, None, refl, sym, ap, ◌∙◌, arith}
+use Rattle.std.proofs.Common.{◌≡◌, ℕ, zero, suc, ◌+◌, ◌<◌, Bool, true, false, not, ◌&&◌, List, [], ◌∷◌, map, length, Option, Some, None, refl, ap, ◌∙◌, arith}
 use Rattle.std.specs.Prelude.{Ok, Err, IfOk, is_some, if◌then◌else◌}
 use Rattle.std.specs.List.{list_all, range_with_len}
 use Rattle.sq_schema.specs.declared.property.Property.{Property}
 use Rattle.sq_tokens.specs.Token.{Token, text_tokens, token_text}
-use Rattle.sq_tokens.specs.Pattern.{Phrase, without_good_star, has_good_star, first_bad_star, single}
+use Rattle.sq_tokens.specs.Pattern.{Phrase, without_good_star, has_good_star, first_bad_star}
 use Rattle.sq_model.specs.Lists.{is_empty}
 use Rattle.sq_model.specs.declared.leaf.Leaf.{Leaf}
 use Rattle.sq_model.specs.declared.fql.Look.{Look}
 use Rattle.sq_model.specs.declared.fql.SpanTree.{SpanTree}
 use Rattle.sq_model.specs.declared.fql.SpanTree.TheVariants as spans
-use Rattle.sq_lex.specs.Outcome.{Outcome, refused, ◌>>=◌}
+use Rattle.sq_lex.specs.Outcome.{Outcome, refused}
 use Rattle.sq_fql.specs.declared.raw.FPiece.{FPiece}
 use Rattle.sq_fql.specs.declared.raw.Mode.{Mode}
 use Rattle.sq_fql.specs.declared.raw.Mode.TheVariants as mode
@@ -20,10 +20,10 @@ use Rattle.sq_fql.specs.declared.raw.FRaw.{FRaw, All, Literal, Scope', Apply', R
 use Rattle.sq_typing.specs.declared.codes.TheConstants.{NO_TOKEN}
 use Rattle.sq_typing.specs.SpanForms.{is_filled}
 use Rattle.sq_typing.specs.Together.{mapped, all_of}
-use Rattle.sq_typing.specs.FqlTexts.{unread, listed, leaf, pattern_in, leaf_in, span_in, only_literal, read_only, word_in, words, phrase, string, single_leaf, single_spans, string_spans}
-use Rattle.sq_typing.specs.Fql.{lone, phrase_span, string_span, joined_spans, joined_all, joins, proximity, proximate, proximate_each}
+use Rattle.sq_typing.specs.FqlTexts.{unread, listed, leaf, pattern_in, leaf_in, only_literal, read_only, word_in, words, phrase, string, single_leaf, single_spans, string_spans}
+use Rattle.sq_typing.specs.Fql.{lone, string_span, joined_spans, joined_all, joins, proximity, proximate, proximate_each}
 use Rattle.sq_typing.proofs.SpanLemmas.{built_union, built_near}
-use Rattle.sq_typing.proofs.TogetherLemmas.{if_mapped, if_together, if_weaker}
+use Rattle.sq_typing.proofs.TogetherLemmas.{if_mapped, if_together}
 
 abbrev Filled : SpanTree → Type 0
 Filled t = is_filled t ≡ true

@@ -1,5 +1,5 @@
 -- What typing FQL gives is sound, part by part.
-use Rattle.std.proofs.Common.{◌≡◌, ℕ, zero, suc, ◌+◌, ◌<◌, ◌≤◌, Bool, true, false, ◌&&◌, List, [], ◌∷◌, map, length, Option, Some, None, refl, sym, ap, ◌∙◌, subst, arith}
+use Rattle.std.proofs.Common.{◌≡◌, ℕ, zero, suc, ◌+◌, ◌<◌, ◌≤◌, Bool, true, false, ◌&&◌, List, [], ◌∷◌, map, length, Option, Some, None, refl, sym, subst, arith}
 use Rattle.std.specs.Prelude.{Ok, Err, IfOk, IfSome, if◌then◌else◌, nat_le, ℤ, int_le, unsigned_abs, position, option_map, option_and_then}
 use Rattle.std.specs.List.{AllByRecursion, range_with_len}
 use Rattle.std.proofs.Common.{pos, neg_ℤ, ◌≤ℤ◌}
@@ -11,7 +11,7 @@ use Rattle.sq_schema.specs.declared.property.Kind.TheVariants as kind
 use Rattle.sq_schema.specs.declared.property.Property.{Property}
 use Rattle.sq_schema.specs.Properties.{has_name}
 use Rattle.sq_model.specs.Copies.{copies}
-use Rattle.sq_model.specs.Kinds.{kind_of, is_text_property, is_number_property, is_boost}
+use Rattle.sq_model.specs.Kinds.{kind_of, is_number_property, is_boost}
 use Rattle.sq_model.specs.Valid.{is_from_to}
 use Rattle.sq_model.specs.FqlSound.{is_look, SpansSound, SomeSpansSound, EachSpansSound, PartsSound, SomeSound, EachSound}
 use Rattle.sq_model.specs.declared.leaf.Leaf.{Leaf}
@@ -35,12 +35,12 @@ use Rattle.sq_typing.specs.declared.codes.TheConstants.{TOO_MANY_FORMS}
 use Rattle.sq_typing.specs.declared.fql_place.Place.{Place}
 use Rattle.sq_typing.specs.declared.fql_place.Place.TheVariants as place
 use Rattle.sq_typing.specs.Together.{mapped, all_of}
-use Rattle.sq_typing.specs.FqlPlaces.{place_of, opened, named, entered, is_outside}
+use Rattle.sq_typing.specs.FqlPlaces.{place_of, opened, entered, is_outside}
 use Rattle.sq_typing.specs.FqlTexts.{listed, leaf_in, word_in, words, phrase, string, single_leaf, for_tokens, single_spans, string_spans, all_tokens, sole_pattern}
 use Rattle.sq_typing.specs.FqlNumbers.{value_in, yes_no_in, within, numbers}
-use Rattle.sq_typing.specs.Fql.{lone, string_span, joined_spans, joined_all, joins, proximity, proximate, proximate_each, with_few_copies, few_copies, edge, counted, every_token, outermost, in_texts, in_scope, is_for_all, made, some_trees, only_tree, first_and_others, combined, combined_all, applied, every_item, literal, typed_at, typed_each}
+use Rattle.sq_typing.specs.Fql.{lone, string_span, joined_spans, joined_all, joins, proximity, proximate, proximate_each, with_few_copies, every_token, outermost, in_texts, in_scope, is_for_all, made, some_trees, only_tree, first_and_others, combined, combined_all, applied, every_item, literal, typed_at, typed_each}
 use Rattle.sq_typing.proofs.FqlFilled.{HasToken, string_some}
-use Rattle.sq_typing.proofs.TogetherLemmas.{if_mapped, if_together, if_weaker}
+use Rattle.sq_typing.proofs.TogetherLemmas.{if_mapped, if_together}
 
 -- there is one, and it holds of all
 abbrev SomeOf : {X : Type 0} → (X → Type 0) → List X → Type 0

@@ -20,7 +20,7 @@ use Rattle.sq_typing.specs.FqlPlaces.{opened, entered}
 use Rattle.sq_typing.specs.FqlTexts.{pattern_in}
 use Rattle.sq_typing.specs.FqlNumbers.{number_in, lower_bound, upper_bound, literal_value, between}
 use Rattle.sq_typing.proofs.FqlLemmas.{tokenless_pattern}
-use Rattle.sq_typing.specs.Fql.{proximity, applied, with_few_copies, fql_typed}
+use Rattle.sq_typing.specs.Fql.{proximity, applied, fql_typed}
 
 -- what unfolds where a tree is built from lists
 unfoldable lists : Unit {0}

@@ -14,6 +14,7 @@ pub mod FqlFilled
 pub mod FqlLemmas
 pub mod FqlSound
 mod FqlTypedExamples
+pub mod FqlXranks
 pub mod SoundLemmas
 pub mod SpanLemmas
 mod SumLemmas

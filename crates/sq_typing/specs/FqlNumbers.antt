@@ -1,5 +1,5 @@
 -- The numbers that a scope of another kind than Text asks for. [MS-FQL2]
-use Rattle.std.specs.Prelude.{ℕ, List, [], ◌∷◌, Bool, true, false, if◌then◌else◌, codes, Option, Some, None, option_map, Result, Ok, Err, ℤ, pos, neg_ℤ, ◌+ℤ◌, ◌-ℤ◌, int_le}
+use Rattle.std.specs.Prelude.{ℕ, List, [], ◌∷◌, Bool, true, false, if◌then◌else◌, codes, option_map, Result, Ok, Err, ℤ, pos, neg_ℤ, ◌+ℤ◌, ◌-ℤ◌, int_le}
 use Rattle.std.specs.Str.{bytes_eq}
 use Rattle.sq_schema.specs.declared.property.Property.{Property}
 use Rattle.sq_schema.specs.declared.interval.Interval.{Interval}
@@ -20,7 +20,7 @@ use Rattle.sq_typing.specs.declared.fql_place.Measure.{Measure}
 use Rattle.sq_typing.specs.declared.fql_place.Measure.TheVariants as measure
 use Rattle.sq_typing.specs.FqlPlaces.{misplaced}
 use Rattle.sq_typing.specs.FqlTexts.{unread, listed, only_literal, read_only}
-use Rattle.sq_typing.specs.Together.{mapped, together}
+use Rattle.sq_typing.specs.Together.{together}
 
 -- ---- literals
 

@@ -1,5 +1,5 @@
 -- Where an expression of FQL stands, and which scopes may stand there.
-use Rattle.std.specs.Prelude.{ℕ, List, Bool, true, false, if◌then◌else◌, position, Option, Some, None, option_map, option_and_then, Ok, Err}
+use Rattle.std.specs.Prelude.{ℕ, List, Bool, true, false, if◌then◌else◌, position, Option, option_map, option_and_then, Ok, Err}
 use Rattle.sq_base.specs.declared.faults.QueryFault.{QueryFault}
 use Rattle.sq_schema.specs.declared.property.Kind.{Kind}
 use Rattle.sq_schema.specs.declared.property.Kind.TheVariants as kind
@@ -11,7 +11,6 @@ use Rattle.sq_model.specs.declared.fql.Look.TheVariants.{Searchable, One}
 use Rattle.sq_lex.specs.Outcome.{Outcome, refused, or_refused, ◌>>=◌}
 use Rattle.sq_typing.specs.declared.codes.TheConstants.{UNKNOWN_PROPERTY}
 use Rattle.sq_typing.specs.declared.fql_codes.TheConstants.{NESTED_SCOPE}
-use Rattle.sq_typing.specs.declared.fql_place.Measure.{Measure}
 use Rattle.sq_typing.specs.declared.fql_place.Measure.TheVariants as measure
 use Rattle.sq_typing.specs.declared.fql_place.Place.{Place}
 use Rattle.sq_typing.specs.declared.fql_place.Place.TheVariants as place

@@ -20,7 +20,7 @@ use Rattle.sq_fql.specs.declared.raw.Op.TheVariants as op
 use Rattle.sq_fql.specs.declared.raw.FRaw.{FRaw, All, Literal, Scope', Apply', Row_of-FRaw, items-the_row-FRaw}
 use Rattle.sq_typing.specs.declared.codes.TheConstants.{WRONG_OPERATOR, NO_TOKEN}
 use Rattle.sq_typing.specs.FqlPlaces.{misplaced}
-use Rattle.sq_typing.specs.Together.{mapped, together, all_of}
+use Rattle.sq_typing.specs.Together.{mapped, all_of}
 
 -- of a tree that reading doesn't give
 abbrev pub unread : {A : Type 0} → Outcome A

@@ -1,4 +1,4 @@
-use Rattle.std.proofs.Common.{◌<◌, ◌≡◌, ap, sym, ◌∙◌}
+use Rattle.std.proofs.Common.{ap, sym, ◌∙◌}
 use Rattle.std.specs.Prelude.{Ok}
 use Rattle.sq_typing.proofs.FqlLemmas.{parts_some, parts_plain}
 use Rattle.sq_typing.proofs.fql_patterns.phrase.Goals as goal

@@ -1,4 +1,4 @@
-use Rattle.std.proofs.Common.{rules, ◌≡◌, ap, sym, ◌∙◌}
+use Rattle.std.proofs.Common.{ap, ◌∙◌}
 use Rattle.std.specs.Prelude.{Err}
 use Rattle.sq_typing.proofs.FqlLemmas.{good_pattern, starred_pattern}
 use Rattle.sq_typing.proofs.fql_texts.pattern_in.Goals as goal
