@@ -1,11 +1,11 @@
 -- The fault that goes first is the same however the parts are grouped.
 use Rattle.std.proofs.Common.{◌≡◌, ℕ, suc, ◌+◌, ◌<◌, Bool, true, false, cond, List, [], ◌∷◌, ◌++◌, map, length, get_or, drop, drop-cons, add-one, refl, ap, sym, ◌∙◌, append_assoc, arith}
-use Rattle.std.specs.Prelude.{Ok, Err, ◌==◌, nat_lt, nat_le, IfOk}
+use Rattle.std.specs.Prelude.{Ok, Err, IfOk}
 use Rattle.std.proofs.lemmas.Bool.Decides.{nat_tests}
 use Rattle.std.proofs.lemmas.List.{append-nil}
 use Rattle.sq_base.specs.declared.faults.QueryFault.{QueryFault}
 use Rattle.sq_lex.specs.Outcome.{Outcome}
-use Rattle.sq_typing.specs.Together.{stands_first, is_last, goes_first, first_fault, mapped, together, all_of}
+use Rattle.sq_typing.specs.Together.{goes_first, first_fault, mapped, together, all_of}
 
 -- one of two, by a test
 abbrev choose : {X : Type 0} → (X → X → Bool) → X → X → X
