@@ -5,7 +5,7 @@ use Rattle.std.specs.Int.{w64}
 use Rattle.sq_schema.specs.declared.property.Property.{Property}
 use Rattle.sq_schema.specs.Dates.{interval_of}
 use Rattle.sq_schema.specs.Intervals.{single, clamped, moment_interval}
-use Rattle.sq_schema.specs.Moments.{IsMoment, IsMomentText, IsInYears}
+use Rattle.sq_schema.specs.Moments.{IsMoment, IsMomentText, IsInYears, text_of_moment}
 use Rattle.sq_schema.specs.Properties.{IsSchema, has_name}
 use Rattle.sq_schema.specs.Values.{number_of}
 
@@ -20,6 +20,10 @@ NumbersReadBack = (n : ℤ) → FitsSigned w64 n → number_of (signed_decimal n
 -- the text of a moment is a date with a time, and its interval is that moment alone
 abbrev pub MomentsReadBack : Type 0
 MomentsReadBack = (moment : ℤ) (text : List ℕ) → IsMoment moment → IsMomentText moment text → interval_of text ≡ Some (single moment)
+
+-- the text of a moment is its date and its time
+abbrev pub MomentsAreWritten : Type 0
+MomentsAreWritten = (moment : ℤ) → IsMoment moment → IsMomentText moment (text_of_moment moment)
 
 -- the interval of a date text lies in the years 0001 to 9999
 abbrev pub DatesLieInYears : Type 0

@@ -1,0 +1,7 @@
+//! The law of lowering. The function does nothing: its contract is the law.
+ghost use Rattle.sq_lower.specs.Law as spec;
+
+/// The typed tree of a lowered KQL tree holds of the same items as the KQL tree, and gives them the same boosts.
+pub fn lowering_keeps_meaning()
+    ensures { spec.LoweringKeepsMeaning }
+{}

@@ -1,0 +1,8 @@
+//! The FQL tree of a KQL tree, with the same meaning and the same boosts: one evaluator serves both languages.
+#![tactic(auto)]
+
+mod laws;
+mod lowering;
+
+pub use laws::lowering_keeps_meaning;
+pub use lowering::lower;
