@@ -1,1 +1,9 @@
+mod CopiesLemmas
+mod DistinctLemmas
 mod Form
+mod JoinedLemmas
+mod ProximityLemmas
+mod RawEquations
+mod RunLemmas
+mod SpanEquations
+mod TypedLemmas
