@@ -1,1 +1,3 @@
 mod Form
+mod RawEquations
+mod TestLemmas
