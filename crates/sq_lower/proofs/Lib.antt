@@ -6,4 +6,5 @@ mod ProximityLemmas
 mod RawEquations
 mod RunLemmas
 mod SpanEquations
+mod TestLemmas
 mod TypedLemmas

@@ -1,12 +1,11 @@
 -- A proximity expression of KQL is typed as its form, inside NEAR and ONEAR and outermost.
 use Rattle.std.proofs.Common.{◌≡◌, ℕ, Bool, true, false, ◌&&◌, List, [], ◌∷◌, map, refl, ap, ◌∙◌}
 use Rattle.std.specs.Prelude.{nat_le, Ok}
-use Rattle.std.proofs.lemmas.Bool.{true≢false, false≢true}
+use Rattle.std.proofs.lemmas.Bool.{true≢false, false≢true, leb-true}
 use Rattle.sq_schema.specs.declared.property.Property.{Property}
 use Rattle.sq_model.specs.Lists.{is_empty}
 use Rattle.sq_model.specs.Copies as span
-use Rattle.sq_model.specs.KqlSound.{LeafSound, LeavesSound, PartsSound, SomeSound, EachSound, is_proximity, are_proximity}
-use Rattle.sq_model.specs.declared.leaf.Leaf.{Leaf}
+use Rattle.sq_model.specs.KqlSound.{PartsSound, SomeSound, EachSound, is_proximity, are_proximity}
 use Rattle.sq_model.specs.declared.fql.Look.{Look}
 use Rattle.sq_model.specs.declared.fql.Look.TheVariants.{Searchable}
 use Rattle.sq_model.specs.declared.fql.SpanTree.{SpanTree}
@@ -17,13 +16,14 @@ use Rattle.sq_lex.specs.Outcome.{Outcome}
 use Rattle.sq_fql.specs.declared.raw.FRaw.{FRaw}
 use Rattle.sq_fql.specs.declared.raw.Op.{Op}
 use Rattle.sq_fql.specs.declared.raw.Op.TheVariants as op
-use Rattle.sq_typing.specs.Fql.{joins, joined_spans, joined_all, proximity, proximate, with_few_copies, few_copies, outermost, fql_typed}
+use Rattle.sq_typing.specs.Fql.{joins, joined_spans, joined_all, proximity, proximate, few_copies, outermost, fql_typed}
 use Rattle.sq_typing.specs.Together.{all_of}
-use Rattle.sq_lower.specs.Lowered.{apply, phrase, words, near, lowered, lowered_each}
+use Rattle.sq_lower.specs.Lowered.{apply, near, lowered, lowered_each}
 use Rattle.sq_lower.proofs.CopiesLemmas.{each_of_some}
 use Rattle.sq_lower.proofs.Form.{spans, spans_each}
 use Rattle.sq_lower.proofs.JoinedLemmas.{GiveEach, all_given}
 use Rattle.sq_lower.proofs.RawEquations.{proximate_joined, typed_in_scope}
+use Rattle.sq_lower.proofs.TestLemmas.{few_copies_is, phrase_given, words_given}
 
 pub and_left : (a b : Bool) → (a && b) ≡ true → a ≡ true
 and_left true b both = refl
@@ -38,12 +38,8 @@ proximity_joined : (look : Look) (at : ℕ) (o : Op) (operands : List FRaw) (par
 unfolding proximity
 proximity_joined look at o operands parts joining = rw joining refl
 
-within_copies : (at : ℕ) (look : Look) (t : SpanTree) → nat_le (span.copies t) 256 ≡ true → with_few_copies at look t ≡ Ok (f.Spans look t)
-unfolding with_few_copies
-within_copies at look t few = rw few refl
-
 module _ (schema : List Property) (look : Look) where
-  pub joined_given : (o : Op) (raws : List FRaw) (parts : List SpanTree) → joins o ≡ true → GiveEach (proximate schema look) raws parts →
+  joined_given : (o : Op) (raws : List FRaw) (parts : List SpanTree) → joins o ≡ true → GiveEach (proximate schema look) raws parts →
       proximate schema look (apply o raws) ≡ joined_spans o parts
   joined_given o raws parts joining given = proximate_joined schema look 0 o raws joining ∙ ap (joined_all o) (all_given (proximate schema look) raws parts given)
 
@@ -64,28 +60,26 @@ module _ (schema : List Property) (look : Look) where
   few_given o raws parts t joining is given few =
       ap (few_copies 0 look)
       (proximity_joined look 0 o raws (map (proximate schema look) raws) joining ∙ (ap (joined_all o) (all_given (proximate schema look) raws parts given) ∙ is))
-      ∙ within_copies 0 look t few
+      ∙ few_copies_is look t (leb-true (span.copies t) 256 few)
 
   some_spans : {m : _} (row : Row_of-KTree m) → SomeSound schema row → is_empty (spans_each row) ≡ false
   some_spans end_of-KTree sound = absurd sound
   some_spans (more_of-KTree part rest) sound = refl
 
-  module _ (phrase_given : (leaf : Leaf) → LeafSound leaf → proximate schema look (phrase leaf) ≡ Ok (s.Leaf leaf))
-      (words_given : (leaves : List Leaf) → is_empty leaves ≡ false → LeavesSound leaves → proximate schema look (words leaves) ≡ Ok (s.Union (map s.Leaf leaves))) where
-    mutual
-      pub proximity_given : (k : KTree) → is_proximity k ≡ true → PartsSound schema k → proximate schema look (lowered schema k) ≡ Ok (spans k)
-      proximity_given (Free leaf) is sound = phrase_given leaf sound
-      proximity_given (Words leaves) is sound = words_given leaves sound.0 sound.1
-      proximity_given (Group' p (more_of-KTree inside end_of-KTree)) is sound = proximity_given inside (and_left _ _ is) sound.0
-      proximity_given (Or' shape parts) is sound = or_given (lowered_each schema parts) (spans_each parts) (some_spans parts sound) (each_given parts is (each_of_some schema parts sound))
-      proximity_given (Near' p (more_of-KTree left end_of-KTree) q (more_of-KTree right end_of-KTree) n ordered) is sound =
-          near_given n ordered (lowered schema left ∷ lowered schema right ∷ []) (spans left ∷ spans right ∷ []) refl
-          (proximity_given left (and_left _ _ (and_left _ _ is)) sound.0.0, (proximity_given right (and_left _ _ (and_right _ _ is)) sound.1.0, tt))
-      proximity_given _ is sound = absurd (false≢true is)
+  mutual
+    pub proximity_given : (k : KTree) → is_proximity k ≡ true → PartsSound schema k → proximate schema look (lowered schema k) ≡ Ok (spans k)
+    proximity_given (Free leaf) is sound = phrase_given schema look leaf sound
+    proximity_given (Words leaves) is sound = words_given schema look leaves sound.0 sound.1
+    proximity_given (Group' p (more_of-KTree inside end_of-KTree)) is sound = proximity_given inside (and_left _ _ is) sound.0
+    proximity_given (Or' shape parts) is sound = or_given (lowered_each schema parts) (spans_each parts) (some_spans parts sound) (each_given parts is (each_of_some schema parts sound))
+    proximity_given (Near' p (more_of-KTree left end_of-KTree) q (more_of-KTree right end_of-KTree) n ordered) is sound =
+        near_given n ordered (lowered schema left ∷ lowered schema right ∷ []) (spans left ∷ spans right ∷ []) refl
+        (proximity_given left (and_left _ _ (and_left _ _ is)) sound.0.0, (proximity_given right (and_left _ _ (and_right _ _ is)) sound.1.0, tt))
+    proximity_given _ is sound = absurd (false≢true is)
 
-      each_given : {m : _} (row : Row_of-KTree m) → are_proximity row ≡ true → EachSound schema row → GiveEach (proximate schema look) (lowered_each schema row) (spans_each row)
-      each_given end_of-KTree is sound = tt
-      each_given (more_of-KTree part rest) is sound = (proximity_given part (and_left _ _ is) sound.0, each_given rest (and_right _ _ is) sound.1)
+    each_given : {m : _} (row : Row_of-KTree m) → are_proximity row ≡ true → EachSound schema row → GiveEach (proximate schema look) (lowered_each schema row) (spans_each row)
+    each_given end_of-KTree is sound = tt
+    each_given (more_of-KTree part rest) is sound = (proximity_given part (and_left _ _ is) sound.0, each_given rest (and_right _ _ is) sound.1)
 
 module _ (schema : List Property) where
   pub near_typed : (n : ℕ) (ordered : Bool) (raws : List FRaw) (parts : List SpanTree) → is_empty parts ≡ false → GiveEach (proximate schema Searchable) raws parts →
