@@ -1,8 +1,17 @@
+mod CopiesLemmas
+mod DistinctLemmas
 mod Form
 mod FormEquations
+mod JoinedLemmas
 mod MeaningBoost
 mod MeaningHolds
 mod MeaningNumbers
 mod MeaningRuns
 mod MeaningSpans
+mod ProximityLemmas
+mod RawEquations
+mod RunLemmas
 mod RunTests
+mod SpanEquations
+mod TestLemmas
+mod TypedLemmas
