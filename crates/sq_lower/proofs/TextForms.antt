@@ -28,7 +28,7 @@ use Rattle.sq_lex.specs.declared.class.Class.TheVariants as class
 use Rattle.sq_lex.specs.Bytes.{is_in}
 use Rattle.sq_fql.specs.WellFormed.{IsName}
 use Rattle.sq_lower.specs.Lowered.{flag_text, number_text}
-use Rattle.sq_lower.proofs.TestLemmas.{integers_are}
+use Rattle.sq_lower.proofs.TestLemmas.{integers_are, moment_length}
 
 -- ---- texts without a star
 
@@ -117,10 +117,6 @@ four_starless n = rw (plain_above (n / 1000), plain_above (n / 100 % 10), plain_
 
 joined_starless : (left right : List ℕ) → list_all is_plain left ≡ true → list_all is_plain right ≡ true → list_all is_plain (left ++ right) ≡ true
 joined_starless left right h k = list_all-append is_plain left right ∙ and_from (list_all is_plain left) (list_all is_plain right) h k
-
-moment_length : (n : ℤ) → length (text_of_moment n) ≡ 20
-unfolding text_of_moment two_text four_text
-moment_length n = refl
 
 date_starless : (day : ℤ) → list_all is_plain (date_text day) ≡ true
 date_starless day =
