@@ -1,7 +1,14 @@
 mod Form
+mod FormEquations
+mod MeaningBoost
+mod MeaningHolds
+mod MeaningNumbers
+mod MeaningRuns
+mod MeaningSpans
 mod RawEquations
 mod RawForms
 mod RunForms
+mod RunTests
 mod RunWeights
 mod TestLemmas
 mod TextForms
