@@ -10,8 +10,13 @@ mod MeaningRuns
 mod MeaningSpans
 mod ProximityLemmas
 mod RawEquations
+mod RawForms
+mod RunForms
 mod RunLemmas
 mod RunTests
+mod RunWeights
 mod SpanEquations
 mod TestLemmas
+mod TextForms
 mod TypedLemmas
+mod WellFormedLemmas

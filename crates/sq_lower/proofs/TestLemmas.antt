@@ -280,7 +280,8 @@ word_shape : (number_of (codes "min") ≡ Err Shape) × (number_of (codes "max")
 unfolding number_of is_numeral behind_minus
 word_shape = (refl, refl)
 
-moment_length : (n : ℤ) → length (text_of_moment n) ≡ 20
+-- YYYY-MM-DDThh:mm:ssZ
+pub moment_length : (n : ℤ) → length (text_of_moment n) ≡ 20
 unfolding text_of_moment two_text four_text
 moment_length n = refl
 
