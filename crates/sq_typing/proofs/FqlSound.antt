@@ -40,16 +40,12 @@ use Rattle.sq_typing.specs.FqlTexts.{listed, leaf_in, word_in, words, phrase, st
 use Rattle.sq_typing.specs.FqlNumbers.{value_in, yes_no_in, within, numbers}
 use Rattle.sq_typing.specs.Fql.{lone, string_span, joined_spans, joined_all, joins, proximity, proximate, proximate_each, with_few_copies, every_token, outermost, in_texts, in_scope, is_for_all, made, some_trees, only_tree, first_and_others, combined, combined_all, applied, every_item, literal, typed_at, typed_each}
 use Rattle.sq_typing.proofs.FqlFilled.{HasToken, string_some}
-use Rattle.sq_typing.proofs.TogetherLemmas.{if_mapped, if_together}
+use Rattle.sq_typing.proofs.TogetherLemmas.{if_mapped, if_together, if_bound}
 
 -- there is one, and it holds of all
 abbrev SomeOf : {X : Type 0} → (X → Type 0) → List X → Type 0
 SomeOf P [] = ⊥
 SomeOf P (x ∷ xs) = P x × AllByRecursion P xs
-
-if_bound : {A B : Type 0} (x : Outcome A) (f : A → Outcome B) (P : A → Type 0) (Q : B → Type 0) → IfOk x P → ((a : A) → P a → IfOk (f a) Q) → IfOk (x >>= f) Q
-if_bound (Ok a) f P Q h k = k a h
-if_bound (Err e) f P Q h k = tt
 
 -- ---- proximity expressions by lists
 
@@ -407,5 +403,5 @@ module _ (schema : List Property) where
         if_together (λ t ts. t ∷ ts) (typed_at schema here part) (all_of (typed_each schema here rest)) (PartsSound schema) (AllSound schema) (AllSound schema)
         (typed_sound here part is form.0) (each_typed here rest is form.1) (λ t ts h k. (h, k))
 
-  pub whole_sound : (t : FRaw) → HasForm t → IfOk (typed_at schema (place.Texts Searchable) t) (PartsSound schema)
-  whole_sound t form = typed_sound (place.Texts Searchable) t refl form
+  pub parts_sound : (t : FRaw) → HasForm t → IfOk (typed_at schema (place.Texts Searchable) t) (PartsSound schema)
+  parts_sound t form = typed_sound (place.Texts Searchable) t refl form

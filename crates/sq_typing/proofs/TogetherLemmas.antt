@@ -4,7 +4,7 @@ use Rattle.std.specs.Prelude.{Ok, Err, IfOk}
 use Rattle.std.proofs.lemmas.Bool.Decides.{nat_tests}
 use Rattle.std.proofs.lemmas.List.{append-nil}
 use Rattle.sq_base.specs.declared.faults.QueryFault.{QueryFault}
-use Rattle.sq_lex.specs.Outcome.{Outcome}
+use Rattle.sq_lex.specs.Outcome.{Outcome, ◌>>=◌}
 use Rattle.sq_typing.specs.Together.{goes_first, first_fault, mapped, together, all_of}
 
 -- one of two, by a test
@@ -82,3 +82,11 @@ if_together f (Err e) (Err g) P Q R h k m = tt
 pub if_weaker : {A : Type 0} (x : Outcome A) (P Q : A → Type 0) → IfOk x P → ((a : A) → P a → Q a) → IfOk x Q
 if_weaker (Ok a) P Q h k = k a h
 if_weaker (Err e) P Q h k = tt
+
+pub if_any : {A : Type 0} (x : Outcome A) → IfOk x (λ a. Unit {0})
+if_any (Ok a) = tt
+if_any (Err e) = tt
+
+pub if_bound : {A B : Type 0} (x : Outcome A) (f : A → Outcome B) (P : A → Type 0) (Q : B → Type 0) → IfOk x P → ((a : A) → P a → IfOk (f a) Q) → IfOk (x >>= f) Q
+if_bound (Ok a) f P Q h k = k a h
+if_bound (Err e) f P Q h k = tt

@@ -1,9 +1,9 @@
 //! Typing of FQL.
 
-ghost use Rattle.std.specs.Prelude.{◌≡◌, ◌≤◌, true, map, IfOk};
+ghost use Rattle.std.specs.Prelude.{◌≡◌, true, map, IfOk};
 ghost use Rattle.sq_lex.specs.Outcome.{Gives};
-ghost use Rattle.sq_model.specs.FqlSound.{PartsSound, xranks_in};
-ghost use Rattle.sq_fql.specs.WellFormed.{HasForm, xranks};
+ghost use Rattle.sq_model.specs.FqlSound.{IsSound};
+ghost use Rattle.sq_fql.specs.WellFormed.{IsWellFormed};
 ghost use Rattle.sq_typing.specs.Fql as spec;
 ghost use Rattle.sq_typing.specs.SpanForms.{is_filled};
 ghost use Rattle.sq_typing.specs.Together.{all_of};
@@ -274,8 +274,7 @@ fn typed_each(
 /// goes first: at the least place, and there the lowest code, 311 only where there is no other.
 pub fn type_fql(alloc: Global, tree: &FRaw, schema: &Schema) -> Result<FTree, Fault>
     ensures typed { Gives (λ tree. tree) result (spec.fql_typed schema.now tree.now) }
-    ensures parts { HasForm tree.now → IfOk result (PartsSound schema.now) }
-    ensures xranks { IfOk result (λ typed. xranks_in typed ≤ xranks tree.now) }
+    ensures sound { IsWellFormed tree.now → IfOk result (IsSound schema.now) }
 {
     let outcome = typed(alloc, schema, Place::Texts(Look::Searchable), tree)?;
     let tree = outcome?;

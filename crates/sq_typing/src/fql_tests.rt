@@ -107,6 +107,13 @@ fn a_text_is_typed_or_refused_at_its_place(rt: HostRuntime) -> Result<(), Fail> 
         ("size:range(1,title:b)", 302, 13),
         ("size:range(int(1),int(2))", 0, 0),
         ("write:range(int(1),max)", 302, 12),
+        (
+            "and(a,near(or(\"old bank\",merger),or(\"old bank\",merger),or(\"old bank\",merger),\
+             or(\"old bank\",merger),or(\"old bank\",merger),or(\"old bank\",merger),\
+             or(\"old bank\",merger),or(\"old bank\",merger),or(\"old bank\",merger)))",
+            311,
+            6,
+        ),
     ] {
         let (code, place) = outcome(alloc, &schema, text);
         assert_eq!(rt; code, want);
