@@ -10,7 +10,7 @@ use Rattle.sq_model.specs.declared.kql.KOperand.{KOperand}
 use Rattle.sq_model.specs.declared.kql.KTree.TheVariants as tree
 use Rattle.sq_lower.specs.Runs.{Form, run_form}
 use Rattle.sq_lower.specs.Lowered.{apply, near, lowered, raw_joins}
-use Rattle.sq_lower.proofs.RunForms.{more_forms, next_form, whole_run}
+use Rattle.sq_lower.proofs.SeenRuns.{more_forms, next_form, whole_run}
 use Rattle.sq_lower.proofs.SoundParts.{sound_group, sound_left, sound_right, sound_matched, sound_ranked, sound_and, sound_or, sound_run}
 use Rattle.sq_lower.proofs.TreeEquations.{form_of, lowered_near, lowered_run, lowered_xrank}
 use Rattle.sq_lower.proofs.TreeNodes.{nodes_group, nodes_left, nodes_right, nodes_matched, nodes_ranked, nodes_and, nodes_or, nodes_run, at_most_all, at_most_all_operands, below, below_tree, below_list}

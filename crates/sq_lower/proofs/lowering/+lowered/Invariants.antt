@@ -1,7 +1,7 @@
 use Rattle.std.proofs.Common.{◌≡◌, ◌+◌, ◌*◌, ◌++◌, map, take, drop}
 use Rattle.sq_model.specs.KqlSound.{nodes}
 use Rattle.sq_lower.specs.Lowered.{lowered}
-use Rattle.sq_lower.proofs.RunForms.{HasForms}
+use Rattle.sq_lower.proofs.SeenRuns.{HasForms}
 use Rattle.sq_lower.proofs.TreeEquations.{form_of}
 use Rattle.sq_lower.proofs.TreeNodes.{all_nodes, all_operand_nodes}
 use Rattle.sq_lower.proofs.lowering.+lowered.Given as goal
