@@ -1,6 +1,27 @@
+mod CopiesLemmas
+mod DistinctLemmas
 mod Form
-pub mod Groups
-pub mod RunForms
-pub mod SoundParts
-pub mod TreeEquations
-pub mod TreeNodes
+mod FormEquations
+mod Groups
+mod JoinedLemmas
+mod MeaningBoost
+mod MeaningHolds
+mod MeaningNumbers
+mod MeaningRuns
+mod MeaningSpans
+mod ProximityLemmas
+mod RawEquations
+mod RawForms
+mod RunForms
+mod RunLemmas
+mod RunTests
+mod RunWeights
+mod SeenRuns
+mod SoundParts
+mod SpanEquations
+mod TestLemmas
+mod TextForms
+mod TreeEquations
+mod TreeNodes
+mod TypedLemmas
+mod WellFormedLemmas

@@ -1,15 +1,15 @@
 -- The year and the month of a day are those of its date.
-use Rattle.std.proofs.Common.{◌≡◌, ℕ, zero, suc, ◌+◌, ◌-◌, ◌<◌, ◌≤◌, Bool, true, false, cond, refl, arith, lit≤, ℤ, pos, neg_ℤ, ◌+ℤ◌, ◌-ℤ◌, ◌≤ℤ◌, ◌<ℤ◌, ◌∙◌, ap, sym, List, inl, inr}
+use Rattle.std.proofs.Common.{◌≡◌, ℕ, zero, suc, ◌+◌, ◌<◌, ◌≤◌, true, false, refl, arith, lit≤, ℤ, pos, ◌+ℤ◌, ◌≤ℤ◌, ◌<ℤ◌, sym, List, inl, inr}
 use Rattle.std.specs.Prelude.{int_le}
 use Rattle.std.proofs.lemmas.Int.{ints, by_lt_z}
 use Rattle.std.proofs.lemmas.Bool.{cases_lt}
-use Rattle.jiff_core.specs.Calendar.{days_from_civil, day_count, days_in_month, IsCivilDate, IsYear}
+use Rattle.jiff_core.specs.Calendar.{days_from_civil, days_in_month, IsYear}
 use Rattle.jiff_core.specs.Date.{epoch_day}
 use Rattle.jiff_core.specs.declared.civil.date.Date.{Date}
 use Rattle.jiff_core.proofs.CalendarLemmas.{day_count-lt_year, day_count-lt_month, day_count-day_of_year, day_count-last_of_year, day_of_year_bound, day_count-day, days_from_civil-day_count, days_in_month_bounds}
 use Rattle.jiff_core.proofs.DateLemmas.{civil}
 use Rattle.jiff_core.proofs.SignedLemmas.{signed_arith}
-use Rattle.sq_schema.specs.Intervals.{year_from, month_from, year_of_day, month_of_day, day_of_moment, interval_named, interval_in, moment_interval}
+use Rattle.sq_schema.specs.Intervals.{year_from, month_from, year_of_day, day_of_moment, interval_named, moment_interval}
 
 -- an earlier year is over before the date
 over_before : (d : Date) (y : ℤ) → IsYear y → y <ℤ d.year → days_from_civil y 12 31 <ℤ epoch_day d

@@ -11,6 +11,11 @@ pub fn moments_read_back()
     ensures { spec.MomentsReadBack }
 {}
 
+/// The text that [`crate::moment_text`] writes is the date and the time of the moment.
+pub fn moments_are_written()
+    ensures { spec.MomentsAreWritten }
+{}
+
 /// What `{}` writes of an `i64`, [`crate::number`] reads as that number.
 pub fn numbers_read_back()
     ensures { spec.NumbersReadBack }

@@ -1,4 +1,0 @@
-use Rattle.sq_lower.proofs.restrictions.moment.Goals as goal
-
-pub returns : goal.returns
-returns c = ?
