@@ -2,7 +2,7 @@
 
 ghost use Rattle.std.specs.Prelude.{◌≡◌, true, false, slice_get, IfOk, codes};
 ghost use Rattle.std.specs.Fmt.{signed_decimal};
-ghost use Rattle.sq_schema.specs.Moments.{IsMoment, text_of_moment};
+ghost use Rattle.sq_schema.specs.Moments.{IsMoment};
 ghost use Rattle.sq_model.specs.KqlSound.{is_value_test_of};
 ghost use Rattle.sq_model.specs.Kinds.{kind_of};
 ghost use Rattle.sq_lower.specs.Lowered as spec;
@@ -69,14 +69,6 @@ pub(crate) fn text_test(
     }
 }
 
-fn moment(alloc: Global, n: i64) -> Result<Text, AllocError>
-    requires { IsMoment n }
-    ensures { IfOk result (λ text. text ≡ text_of_moment n) }
-{
-    let text = moment_text(alloc, n)?;
-    Ok(text)
-}
-
 fn flag(alloc: Global, n: i64) -> Result<Text, AllocError>
     ensures { IfOk result (λ text. text ≡ spec.flag_text n) }
 {
@@ -99,7 +91,10 @@ fn number_text(alloc: Global, kind: Kind, n: i64) -> Result<Text, AllocError>
     ensures { IfOk result (λ text. text ≡ spec.number_text kind n) }
 {
     match kind {
-        Kind::DateTime => moment(alloc, n),
+        Kind::DateTime => {
+            let text = moment_text(alloc, n)?;
+            Ok(text)
+        }
         Kind::YesNo => flag(alloc, n),
         Kind::Text | Kind::Integer => decimal(alloc, n),
     }
