@@ -2,6 +2,7 @@ mod CopiesLemmas
 mod DistinctLemmas
 mod Form
 mod FormEquations
+mod Groups
 mod JoinedLemmas
 mod MeaningBoost
 mod MeaningHolds
@@ -15,8 +16,12 @@ mod RunForms
 mod RunLemmas
 mod RunTests
 mod RunWeights
+mod SeenRuns
+mod SoundParts
 mod SpanEquations
 mod TestLemmas
 mod TextForms
+mod TreeEquations
+mod TreeNodes
 mod TypedLemmas
 mod WellFormedLemmas

@@ -1,0 +1,124 @@
+use Rattle.std.proofs.Common.{◌≡◌, ◌∷◌, [], map, take, subst, ap, ap₂, sym, ◌∙◌, arith}
+use Rattle.std.specs.Int.{w64, cast_signed, cast_unsigned}
+use Rattle.std.specs.List.{All}
+use Rattle.std.proofs.lemmas.Int.{ints, to_z-of_z}
+use Rattle.std.proofs.lemmas.List.{take_all}
+use Rattle.sq_fql.specs.declared.raw.FRaw.{FRaw}
+use Rattle.sq_fql.specs.declared.raw.Op.TheVariants as op
+use Rattle.sq_model.specs.KqlSound.{PartsSound}
+use Rattle.sq_model.specs.declared.kql.KOperand.{KOperand}
+use Rattle.sq_model.specs.declared.kql.KTree.TheVariants as tree
+use Rattle.sq_lower.specs.Runs.{Form, run_form}
+use Rattle.sq_lower.specs.Lowered.{apply, near, lowered, raw_joins}
+use Rattle.sq_lower.proofs.SeenRuns.{more_forms, next_form, whole_run}
+use Rattle.sq_lower.proofs.SoundParts.{sound_group, sound_left, sound_right, sound_matched, sound_ranked, sound_and, sound_or, sound_run}
+use Rattle.sq_lower.proofs.TreeEquations.{form_of, lowered_near, lowered_run, lowered_xrank}
+use Rattle.sq_lower.proofs.TreeNodes.{nodes_group, nodes_left, nodes_right, nodes_matched, nodes_ranked, nodes_and, nodes_or, nodes_run, at_most_all, at_most_all_operands, below, below_tree, below_list}
+use Rattle.sq_lower.proofs.lowering.+lowered.Goals as goal
+
+pub tree_of-tree_of-requires : goal.tree_of-tree_of-requires
+tree_of-tree_of-requires t c = (
+  below _ _ _ (nodes_group c.get.result.now c.in-Group.inside c.in-Group.is c.get.ensures) c.decreases,
+  subst (PartsSound c.args.schema.now) (sym c.get.ensures) (sound_group c.args.schema.now c.in-Group.inside c.in-Group.is c.requires),
+)
+
+pub tree_of-tree_of-requires-in-Near : goal.tree_of-tree_of-requires-in-Near
+tree_of-tree_of-requires-in-Near t c = (
+  below _ _ _ (nodes_left c.get-in-Near.result.now c.in-Near.left c.in-Near.right c.in-Near.n c.in-Near.ordered c.in-Near.is c.get-in-Near.ensures) c.decreases,
+  subst (PartsSound c.args.schema.now) (sym c.get-in-Near.ensures)
+      (sound_left c.args.schema.now c.in-Near.left c.in-Near.right c.in-Near.n c.in-Near.ordered c.in-Near.is c.requires),
+)
+
+pub tree_of-tree_of-requires-in-Near-2 : goal.tree_of-tree_of-requires-in-Near-2
+tree_of-tree_of-requires-in-Near-2 t c = (
+  below _ _ _ (nodes_right c.get-in-Near-2.result.now c.in-Near.left c.in-Near.right c.in-Near.n c.in-Near.ordered c.in-Near.is c.get-in-Near-2.ensures) c.decreases,
+  subst (PartsSound c.args.schema.now) (sym c.get-in-Near-2.ensures)
+      (sound_right c.args.schema.now c.in-Near.left c.in-Near.right c.in-Near.n c.in-Near.ordered c.in-Near.is c.requires),
+)
+
+pub tree_of-tree_of-requires-in-Xrank : goal.tree_of-tree_of-requires-in-Xrank
+tree_of-tree_of-requires-in-Xrank t c = (
+  below _ _ _ (nodes_matched c.get-in-Xrank.result.now c.in-Xrank.matched c.in-Xrank.ranked c.in-Xrank.cb c.in-Xrank.is c.get-in-Xrank.ensures) c.decreases,
+  subst (PartsSound c.args.schema.now) (sym c.get-in-Xrank.ensures)
+      (sound_matched c.args.schema.now c.in-Xrank.matched c.in-Xrank.ranked c.in-Xrank.cb c.in-Xrank.is c.requires),
+)
+
+pub tree_of-tree_of-requires-in-Xrank-2 : goal.tree_of-tree_of-requires-in-Xrank-2
+tree_of-tree_of-requires-in-Xrank-2 t c = (
+  below _ _ _ (nodes_ranked c.get-in-Xrank-2.result.now c.in-Xrank.matched c.in-Xrank.ranked c.in-Xrank.cb c.in-Xrank.is c.get-in-Xrank-2.ensures) c.decreases,
+  subst (PartsSound c.args.schema.now) (sym c.get-in-Xrank-2.ensures)
+      (sound_ranked c.args.schema.now c.in-Xrank.matched c.in-Xrank.ranked c.in-Xrank.cb c.in-Xrank.is c.requires),
+)
+
+pub tree_of-run_of-requires : goal.tree_of-run_of-requires
+tree_of-run_of-requires t c = (
+  below_tree _ _ _ (nodes_run c.as_slice-in-Run.result.now c.in-Run.operands c.in-Run.is c.as_slice-in-Run.ensures) c.decreases,
+  subst (All (λ (operand : KOperand). PartsSound c.args.schema.now operand.tree)) (sym c.as_slice-in-Run.ensures) (sound_run c.args.schema.now c.in-Run.operands c.in-Run.is c.requires),
+)
+
+pub tree_of-trees_of-requires : goal.tree_of-trees_of-requires
+tree_of-trees_of-requires t c = (
+  below_tree _ _ _ (nodes_and c.as_slice-in-And.result.now c.in-And.parts c.in-And.is c.as_slice-in-And.ensures) c.decreases,
+  subst (All (PartsSound c.args.schema.now)) (sym c.as_slice-in-And.ensures) (sound_and c.args.schema.now c.in-And.parts c.in-And.is c.requires),
+)
+
+pub tree_of-trees_of-requires-in-Or : goal.tree_of-trees_of-requires-in-Or
+tree_of-trees_of-requires-in-Or t c = (
+  below_tree _ _ _ (nodes_or c.as_slice-in-Or.result.now c.in-Or.parts c.in-Or.is c.as_slice-in-Or.ensures) c.decreases,
+  subst (All (PartsSound c.args.schema.now)) (sym c.as_slice-in-Or.ensures) (sound_or c.args.schema.now c.in-Or.parts c.in-Or.is c.requires),
+)
+
+pub trees_of-tree_of-requires : goal.trees_of-tree_of-requires
+trees_of-tree_of-requires t c = (
+  below_list _ _ _ (at_most_all c.args.parts.now c.loop-part.part-index c.part-item.result c.loop-part-test.true c.part-item.is) c.decreases,
+  subst (PartsSound c.args.schema.now) (sym c.part-item.is) (c.requires c.loop-part.part-index c.part-item.result c.loop-part-test.true),
+)
+
+pub run_of-tree_of-requires : goal.run_of-tree_of-requires
+run_of-tree_of-requires t c = (
+  below_list _ _ _ (at_most_all_operands c.args.operands.now c.loop-operand.operand-index c.operand-item.result c.loop-operand-test.true c.operand-item.is) c.decreases,
+  subst (λ (operand : KOperand). PartsSound c.args.schema.now operand.tree) (sym c.operand-item.is)
+      (c.requires c.loop-operand.operand-index c.operand-item.result c.loop-operand-test.true),
+)
+
+pub tree_of-returns-in_ok-form-in-Near : goal.tree_of-returns-in_ok-form-in-Near
+tree_of-returns-in_ok-form-in-Near t c =
+    let here = lowered c.args.schema.now in
+    c.in_ok-form-in-Near.ensures
+    ∙ (ap₂ (λ l r. near c.in-Near.n c.in-Near.ordered (l ∷ r ∷ []))
+    (c.in_ok-left-in-Near.ensures ∙ ap here c.get-in-Near.ensures) (c.in_ok-right-in-Near.ensures ∙ ap here c.get-in-Near-2.ensures)
+    ∙ (sym (lowered_near c.args.schema.now c.in-Near.left c.in-Near.right c.in-Near.n c.in-Near.ordered) ∙ ap here (sym c.in-Near.is)))
+
+pub tree_of-returns-in_ok-form-in-Run : goal.tree_of-returns-in_ok-form-in-Run
+tree_of-returns-in_ok-form-in-Run t c =
+    let here = lowered c.args.schema.now in
+    c.in_ok-form-in-Run.ensures ∙ (ap (λ os. here (tree.Run os)) c.as_slice-in-Run.ensures ∙ ap here (sym c.in-Run.is))
+
+pub tree_of-returns-in_ok-operands-in-Xrank : goal.tree_of-returns-in_ok-operands-in-Xrank
+tree_of-returns-in_ok-operands-in-Xrank t c =
+    let here = lowered c.args.schema.now in
+    let read : cast_signed w64 (cast_unsigned w64 c.in-Xrank.cb) ≡ c.in-Xrank.cb = grind (arith, ints, to_z-of_z) in
+    c.apply-in-Xrank.ensures
+    ∙ (ap₂ (λ o l. apply o l) (ap op.Xrank read) (c.in_ok-operands-in-Xrank.ensures
+    ∙ ap₂ (λ m r. m ∷ r ∷ []) (c.in_ok-matched-in-Xrank.ensures ∙ ap here c.get-in-Xrank.ensures) (c.in_ok-ranked-in-Xrank.ensures ∙ ap here c.get-in-Xrank-2.ensures))
+    ∙ (sym (lowered_xrank c.args.schema.now c.in-Xrank.matched c.in-Xrank.ranked c.in-Xrank.cb) ∙ ap here (sym c.in-Xrank.is)))
+
+pub run_of-loop-operand-preserved : goal.run_of-loop-operand-preserved
+run_of-loop-operand-preserved t c =
+    let schema = c.args.schema.now in
+    let operand = c.operand-item.result in
+    let i = c.loop-operand.operand-index in
+    let o : Form FRaw = record { sign = operand.sign; property = c.restricted-property.result; form = c.in_ok-form.form } in
+    let is : o ≡ form_of schema operand = λ j. record { sign = operand.sign; property = c.restricted-property.ensures j; form = c.in_ok-form.ensures j } in
+    next_form schema c.args.operands.now i operand c.add.new.run o c.loop-operand-test.true c.operand-item.is is
+    (more_forms c.loop-operand.run c.add.new.run (map (form_of schema) (take i c.args.operands.now)) o c.loop-operand.invariant
+    c.in_ok-add.ensures.required c.in_ok-add.ensures.restrictions c.in_ok-add.ensures.subtracted)
+
+pub run_of-returns : goal.run_of-returns
+run_of-returns t c =
+    let schema = c.args.schema.now in
+    let operands = c.args.operands.now in
+    let i = c.loop-operand.operand-index in
+    c.in_ok-form-2.ensures
+    ∙ (whole_run c.loop-operand.run (map (form_of schema) (take i operands)) c.loop-operand.invariant
+    ∙ (ap (λ os. run_form raw_joins (map (form_of schema) os)) (take_all i operands c.loop-operand-test.false) ∙ sym (lowered_run schema operands)))
