@@ -1,4 +1,4 @@
-use Rattle.std.proofs.Common.{◌≡◌, List, [], ◌∷◌, ◌++◌, subst, ap, sym, ◌∙◌, arith}
+use Rattle.std.proofs.Common.{List, [], ◌∷◌, ◌++◌, subst, ap, sym, ◌∙◌, arith}
 use Rattle.sq_schema.specs.declared.property.Property.{Property}
 use Rattle.sq_model.specs.KqlSound.{IsSound}
 use Rattle.sq_model.specs.declared.kql.Sign.TheVariants.{Plain, Minus}
