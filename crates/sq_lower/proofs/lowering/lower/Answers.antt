@@ -1,5 +1,5 @@
 use Rattle.std.proofs.Common.{ap, sym, subst, ◌∙◌}
-use Rattle.std.specs.Prelude.{IsOk, is_ok}
+use Rattle.std.specs.Prelude.{is_ok}
 use Rattle.sq_fql.specs.WellFormed.{IsWellFormed}
 use Rattle.sq_typing.specs.Fql.{fql_typed}
 use Rattle.sq_lower.proofs.TypedLemmas.{lowered_typed}
