@@ -9,3 +9,6 @@ mod runs;
 
 pub use laws::lowering_keeps_meaning;
 pub use lowering::lower;
+
+#[cfg(test)]
+mod tests;

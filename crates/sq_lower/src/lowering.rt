@@ -13,7 +13,9 @@ use crate::runs::{add, empty_run, form_of, restricted};
 use sq_base::List;
 use sq_fql::{FRaw, Op};
 use sq_model::{KOperand, KTree};
-use sq_schema::Schema;
+use sq_schema::{
+    Schema, moments_are_written, moments_read_back, names_find_rows, numbers_read_back,
+};
 use std::alloc::{AllocError, Global};
 
 #[cycle(lowered)]
@@ -124,5 +126,11 @@ pub fn lower(alloc: Global, tree: &KTree, schema: &Schema) -> Result<FRaw, Alloc
     ensures formed { IfOk result IsWellFormed }
     ensures typed { IfOk result (λ raw. IsOk (fql_typed schema.now raw)) }
 {
-    tree_of(alloc, tree, schema)
+    names_find_rows();
+    numbers_read_back();
+    moments_read_back();
+    moments_are_written();
+    let _rows = schema.len();
+    let raw = tree_of(alloc, tree, schema)?;
+    Ok(raw)
 }
