@@ -3,9 +3,8 @@ use Rattle.std.proofs.Common.{◌≡◌, ℕ, ◌+◌, ◌<◌, Bool, true, fals
 use Rattle.std.specs.List.{filter_map}
 use Rattle.sq_schema.specs.declared.property.Property.{Property}
 use Rattle.sq_model.specs.declared.corpus.Item.{Item}
-use Rattle.sq_cli.specs.declared.query.Query.{Query}
 use Rattle.sq_model.specs.Access.{admits, seen}
-use Rattle.sq_cli.specs.Query.{holds, boost}
+use Rattle.sq_cli.specs.Query.{Query, holds, boost}
 use Rattle.sq_cli.specs.Answer.{hits}
 use Rattle.sq_cli.specs.Verdict.{hit_in}
 

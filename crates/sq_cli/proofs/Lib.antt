@@ -1,4 +1,6 @@
 mod FilterLemmas
 mod HitLemmas
 mod HitsLemmas
+mod MeansLemmas
+mod QueryLemmas
 mod ReplyLemmas

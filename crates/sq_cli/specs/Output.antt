@@ -3,13 +3,15 @@ use Rattle.std.specs.Prelude.{◌≡◌, ◌⊎◌, ℕ, ℤ, ◌≤◌, ◌++�
 use Rattle.std.specs.List.{flat_map}
 use Rattle.std.specs.Fmt.{decimal, signed_decimal}
 use Rattle.std.specs.Io.KnownBytes.{Appends}
+use Rattle.sq_base.specs.declared.faults.QueryFault.{QueryFault}
 use Rattle.sq_schema.specs.Intervals.{clamped}
 use Rattle.sq_model.specs.declared.corpus.Corpus.{Corpus}
 use Rattle.sq_corpus.specs.CorpusText.{LineFault, corpus_of}
 use Rattle.sq_cli.specs.declared.hit.Hit.{Hit}
 use Rattle.sq_cli.specs.declared.run.Reply.{Reply}
 use Rattle.sq_cli.specs.Answer.{page}
-use Rattle.sq_cli.specs.Command.{Order, Checking, Asking, order_of}
+use Rattle.sq_cli.specs.Command.{Order, Checking, Asking, Lowering, order_of}
+use Rattle.sq_cli.specs.Query.{lowered_of}
 use Rattle.sq_cli.specs.Verdict.{Verdict, Unknown, Faulty, Answered, verdict}
 
 -- a status, and the whole text that is written with it
@@ -51,12 +53,18 @@ answer_outcome (Answered hits) = record { status = 0; text = found_text hits }
 answer_outcome Unknown = record { status = 1; text = fault_text 511 0 }
 answer_outcome (Faulty fault) = record { status = 1; text = fault_text fault.code fault.at }
 
+-- the text by itself, or why there is none
+abbrev pub lowered_outcome : Result (List ℕ) QueryFault → Outcome
+lowered_outcome (Ok text) = record { status = 0; text = text ++ 10 ∷ [] }
+lowered_outcome (Err fault) = record { status = 1; text = fault_text fault.code fault.at }
+
 -- what is written of a corpus that was read, or of its first faulty line
 unfoldable pub corpus_outcome : Order → ℤ → Result Corpus LineFault → Outcome
 corpus_outcome order moment (Err fault) = record { status = 3; text = corpus_fault_text fault.code fault.line }
 corpus_outcome Checking moment (Ok corpus) =
     record { status = 0; text = check_text (length corpus.schema) (length corpus.callers) (length corpus.items) }
 corpus_outcome (Asking caller language text) moment (Ok corpus) = answer_outcome (verdict corpus caller (clamped moment) language text)
+corpus_outcome (Lowering text) moment (Ok corpus) = lowered_outcome (lowered_of corpus.schema (clamped moment) text)
 
 -- what an order writes over the bytes of a corpus
 abbrev pub order_outcome : Order → ℤ → List ℕ → Outcome

@@ -1,20 +1,32 @@
 -- Queries of both languages, typed for a schema and a moment, and their meaning.
-use Rattle.std.specs.Prelude.{◌≡◌, ℕ, Bool, List, ℤ, Result, Ok, Err}
+use Rattle.std.specs.Prelude.{◌≡◌, ℕ, Bool, true, List, ℤ, Result, Ok, Err}
+use Rattle.std.specs.List.{list_all}
 use Rattle.sq_base.specs.declared.faults.Fault.{Fault}
 use Rattle.sq_base.specs.declared.faults.Fault.TheVariants as fault
 use Rattle.sq_schema.specs.declared.property.Property.{Property}
 use Rattle.sq_model.specs.declared.corpus.Value.{Value}
+use Rattle.sq_model.specs.declared.kql.KTree.{KTree}
+use Rattle.sq_model.specs.declared.fql.FTree.{FTree}
 use Rattle.sq_model.specs.Kql as kql
 use Rattle.sq_model.specs.Fql as fql
+use Rattle.sq_model.specs.Valid.{is_value}
 use Rattle.sq_lex.specs.Outcome.{Outcome, ◌>>=◌}
 use Rattle.sq_kql.specs.Tree as kql_tree
 use Rattle.sq_fql.specs.Read as fql_tree
+use Rattle.sq_fql.specs.Canon.{canon}
 use Rattle.sq_typing.specs.Kql.{typed}
 use Rattle.sq_typing.specs.Fql.{fql_typed}
+use Rattle.sq_lower.specs.Lowered.{lowered}
 use Rattle.sq_cli.specs.declared.command.Language.{Language}
 use Rattle.sq_cli.specs.declared.command.Language.TheVariants as language
-use Rattle.sq_cli.specs.declared.query.Query.{Query}
-use Rattle.sq_cli.specs.declared.query.Query.TheVariants.{Kql, Fql}
+
+pub data Query : Type 0 where
+  Kql : KTree → Query
+  Fql : FTree → Query
+
+-- the typed tree of a KQL text
+abbrev pub kql_typed : List Property → ℤ → List ℕ → Outcome KTree
+kql_typed schema moment text = kql_tree.read_of text >>= typed schema moment
 
 -- the typed tree of a text, or its first fault: of reading, and else of typing
 unfoldable pub query_of : List Property → ℤ → Language → List ℕ → Outcome Query
@@ -31,8 +43,17 @@ abbrev pub boost : List Property → List Value → Query → ℤ
 boost schema values (Kql tree) = kql.boost schema values tree
 boost schema values (Fql tree) = fql.boost schema values tree
 
--- A call answers the query or the fault. Want of memory may come in its place.
-abbrev pub GivesQuery : Outcome Query → Result Query Fault → Type 0
-GivesQuery outcome (Ok query) = outcome ≡ Ok query
-GivesQuery outcome (Err (fault.Query refused)) = outcome ≡ Err refused
-GivesQuery outcome (Err fault.NoMemory) = Unit {0}
+-- The canonical FQL text that says what a KQL text says, or the text's first fault: of reading, and else of typing.
+unfoldable pub lowered_of : List Property → ℤ → List ℕ → Outcome (List ℕ)
+lowered_of schema moment text = kql_tree.read_of text >>= typed schema moment >>= (λ tree. Ok (canon (lowered schema tree)))
+
+-- The tree means what the query means: of each item with values of the schema.
+pub record Means (schema : List Property) (query : Query) (tree : FTree) : Type 0 where
+  pub same_hits : (values : List Value) → list_all (is_value schema) values ≡ true → fql.holds schema values tree ≡ holds schema values query
+  pub same_boost : (values : List Value) → list_all (is_value schema) values ≡ true → fql.boost schema values tree ≡ boost schema values query
+
+-- A call answers a tree that means what the query means, or the fault. Want of memory may come in its place.
+abbrev pub GivesTree : List Property → Outcome Query → Result FTree Fault → Type 0
+GivesTree schema outcome (Ok tree) = (query : Query) × (outcome ≡ Ok query) × Means schema query tree
+GivesTree schema outcome (Err (fault.Query refused)) = outcome ≡ Err refused
+GivesTree schema outcome (Err fault.NoMemory) = Unit {0}

@@ -11,8 +11,7 @@ use Rattle.sq_model.specs.Access.{view, admits, seen}
 use Rattle.sq_cli.specs.declared.hit.Hit.{Hit}
 use Rattle.sq_cli.specs.Answer.{hits, hit_of}
 use Rattle.sq_cli.specs.declared.command.Language.{Language}
-use Rattle.sq_cli.specs.declared.query.Query.{Query}
-use Rattle.sq_cli.specs.Query.{query_of, holds, boost}
+use Rattle.sq_cli.specs.Query.{Query, query_of, holds, boost}
 
 pub data Verdict : Type 0 where
   Unknown : Verdict

@@ -1,17 +1,19 @@
 //! The answer by the meaning of the query, item by item.
 ghost use Rattle.std.specs.Prelude.{◌≡◌, ◌<◌, ◌++◌, length, filter_map, option_to_list, IfOk, OnOk, MatchOption, slice_get, None, Some, true, List, ℕ};
 ghost use Rattle.std.specs.List.{find, list_all};
-ghost use Rattle.sq_model.specs.Valid.{has_short_texts};
+ghost use Rattle.sq_model.specs.Valid.{has_short_texts, is_item};
 ghost use Rattle.sq_model.specs.declared.corpus.Item.{Item as ItemOf};
+ghost use Rattle.sq_cli.specs.Query.{Fql};
 ghost use Rattle.sq_cli.specs.Verdict as spec;
 ghost use Rattle.sq_schema.specs.Intervals.{clamped};
 ghost use Rattle.sq_cli.specs.Answers.{Answers};
 
 use crate::command::Language;
 use crate::hit::Hit;
-use crate::query::{Query, query_boost, query_holds, query_of};
+use crate::query::query_of;
 use sq_base::{Fault, QueryFault, Text};
-use sq_model::{Caller, Corpus, admits};
+use sq_model::{Caller, Corpus, FTree, admits};
+use sq_slow::{fql_boost_slow, fql_holds_slow};
 use std::alloc::{AllocError, Global};
 
 /// Why a request isn't answered.
@@ -50,22 +52,22 @@ fn hit_of(
     alloc: Global,
     corpus: &Corpus,
     claims: &[Text],
-    query: &Query,
+    query: &FTree,
     row: u32,
 ) -> Result<Option<Hit>, AllocError>
     requires row { row < length corpus.now.items }
     requires short { list_all has_short_texts corpus.now.items ≡ true }
     ensures { IfOk result (λ hit. (item : ItemOf) → slice_get corpus.now.items row ≡ Some item
-        → hit ≡ spec.hit_in corpus.now.schema claims.now query.now item) }
+        → hit ≡ spec.hit_in corpus.now.schema claims.now (Fql query.now) item) }
 {
     let item = &corpus.items.as_slice()[row as usize];
     if !admits(claims, item) {
         return Ok(None);
     }
-    if !query_holds(alloc, corpus, query, row)? {
+    if !fql_holds_slow(alloc, corpus, query, row)? {
         return Ok(None);
     }
-    let boost = query_boost(alloc, corpus, query, row)?;
+    let boost = fql_boost_slow(alloc, corpus, query, row)?;
     match item.rank.checked_add(boost) {
         Some(score) => Ok(Some(Hit {
             number: item.number,
@@ -81,13 +83,13 @@ fn add_hit(
     hits: &mut Vec<Hit>,
     corpus: &Corpus,
     claims: &[Text],
-    query: &Query,
+    query: &FTree,
     row: u32,
 ) -> Result<(), AllocError>
     requires row { row < length corpus.now.items }
     requires short { list_all has_short_texts corpus.now.items ≡ true }
     ensures { OnOk result ((item : ItemOf) → slice_get corpus.now.items row ≡ Some item
-        → hits.new.items ≡ hits.old.items ++ option_to_list (spec.hit_in corpus.now.schema claims.now query.now item)) }
+        → hits.new.items ≡ hits.old.items ++ option_to_list (spec.hit_in corpus.now.schema claims.now (Fql query.now) item)) }
 {
     if let Some(hit) = hit_of(alloc, corpus, claims, query, row)? {
         hits.push(hit)?;
@@ -100,10 +102,10 @@ fn hits_of(
     alloc: Global,
     corpus: &Corpus,
     claims: &[Text],
-    query: &Query,
+    query: &FTree,
 ) -> Result<Vec<Hit>, AllocError>
     requires { list_all has_short_texts corpus.now.items ≡ true }
-    ensures { IfOk result (λ hits. hits.items ≡ spec.answer corpus.now claims.now query.now) }
+    ensures { IfOk result (λ hits. hits.items ≡ spec.answer corpus.now claims.now (Fql query.now)) }
 {
     let Ok(count) = u32::try_from(corpus.items.len()) else {
         return Err(AllocError);
@@ -126,6 +128,7 @@ pub fn answer(
     now: i64,
 ) -> Result<Vec<Hit>, Refused>
     requires short { list_all has_short_texts corpus.now.items ≡ true }
+    requires items { list_all (is_item corpus.now.schema) corpus.now.items ≡ true }
     requires now { now ≡ clamped now }
     ensures { Answers (spec.verdict corpus.now name.now now language text.now) result }
 {

@@ -20,6 +20,10 @@ pub enum Command<'a> {
         language: Language,
         text: &'a str,
     },
+    /// The FQL text of a KQL text.
+    Lower {
+        text: &'a str,
+    },
 }
 
 fn language_of(word: &str) -> Option<Language>
@@ -57,6 +61,7 @@ pub fn command_of<'a>(words: &[&'a str]) -> Option<Command<'a>>
 {
     match words {
         [word] if *word == "check" => Some(Command::Check),
+        [word, text] if *word == "lower" => Some(Command::Lower { text }),
         [word, caller, language, text] if *word == "ask" => ask_of(caller, language, text),
         _ => None,
     }

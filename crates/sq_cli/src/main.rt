@@ -54,7 +54,7 @@ fn status_of(rt: &HostRuntime) -> Result<u8, AllocError> {
 /// Says on standard error why there is no answer, where standard output says nothing of it.
 fn explain(rt: &HostRuntime, status: u8) {
     let reason = match status {
-        2 => "usage: check | ask CALLER kql TEXT | ask CALLER fql TEXT",
+        2 => "usage: check | ask CALLER kql TEXT | ask CALLER fql TEXT | lower TEXT",
         4 => "corpus.sq can't be read",
         5 => "the answer can't be written",
         7 => "out of memory",

@@ -4,6 +4,7 @@ ghost use Rattle.std.specs.List.{flat_map};
 ghost use Rattle.sq_cli.specs.Output.{fault_text, corpus_fault_text, check_text, hit_text, total_text, found_text};
 
 use crate::hit::{Hit, rank};
+use sq_base::Text;
 use std::alloc::{AllocError, Global};
 
 /// How many hits are listed at most.
@@ -30,6 +31,14 @@ pub fn check_line(
     ensures { IfOk result (λ text. string_bytes text ≡ check_text properties callers items) }
 {
     Ok(format!(in alloc; "ok {properties} properties {callers} callers {items} items\n")?)
+}
+
+/// The line of a text.
+pub fn text_line(alloc: Global, text: &Text) -> Result<String, AllocError>
+    ensures { IfOk result (λ line. string_bytes line ≡ text.now ++ 10 ∷ []) }
+{
+    let text = text.as_str();
+    Ok(format!(in alloc; "{text}\n")?)
 }
 
 /// Adds the line of a hit.

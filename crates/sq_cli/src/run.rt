@@ -4,17 +4,19 @@ ghost use Rattle.std.specs.List.{list_all};
 ghost use Rattle.std.specs.Io.KnownBytes.{Appends};
 ghost use Rattle.sq_base.specs.Causes.{Rose};
 ghost use Rattle.sq_base.specs.Bytes.{AppendsPrefix};
-ghost use Rattle.sq_model.specs.Valid.{has_short_texts};
+ghost use Rattle.sq_model.specs.Valid.{has_short_texts, is_item};
 ghost use Rattle.sq_schema.specs.Intervals.{clamped as moment};
 ghost use Rattle.sq_cli.specs.Command.{order_of, plain};
+ghost use Rattle.sq_cli.specs.Query.{lowered_of};
 ghost use Rattle.sq_cli.specs.Verdict as spec;
-ghost use Rattle.sq_cli.specs.Output.{output, order_outcome, corpus_outcome, answer_outcome, Delivers, IsOfOutput, IsReply};
+ghost use Rattle.sq_cli.specs.Output.{output, order_outcome, corpus_outcome, answer_outcome, lowered_outcome, Delivers, IsOfOutput, IsReply};
 ghost use Rattle.sq_corpus.specs.CorpusText.{corpus_of};
 
 use crate::answer::{Refused, answer};
 use crate::command::{Command, Language, command_of};
-use crate::reply::{check_line, corpus_fault_line, fault_line, found_lines};
-use sq_base::{Failed, ReadAll, Sink, Source, read_all, write_all};
+use crate::query::lowered_text;
+use crate::reply::{check_line, corpus_fault_line, fault_line, found_lines, text_line};
+use sq_base::{Failed, Fault, ReadAll, Sink, Source, read_all, write_all};
 use sq_corpus::{CorpusFault, read_corpus};
 use sq_model::Corpus;
 use sq_schema::clamped;
@@ -57,6 +59,7 @@ fn ask_reply(
     now: i64,
 ) -> Result<Reply, AllocError>
     requires short { list_all has_short_texts corpus.now.items ≡ true }
+    requires items { list_all (is_item corpus.now.schema) corpus.now.items ≡ true }
     requires now { now ≡ moment now }
     ensures reply { IfOk result (IsReply (answer_outcome (spec.verdict corpus.now caller.now now language text.now))) }
     ensures status { IfOk result (λ reply. reply.status ≤ 1) }
@@ -78,6 +81,25 @@ fn ask_reply(
     }
 }
 
+/// Answers the FQL text of a KQL text.
+fn lower_reply(alloc: Global, corpus: &Corpus, text: &str, now: i64) -> Result<Reply, AllocError>
+    requires { now ≡ moment now }
+    ensures reply { IfOk result (IsReply (lowered_outcome (lowered_of corpus.now.schema now text.now))) }
+    ensures status { IfOk result (λ reply. reply.status ≤ 1) }
+{
+    match lowered_text(alloc, &corpus.schema, text, now) {
+        Ok(text) => Ok(Reply {
+            status: 0,
+            text: text_line(alloc, &text)?,
+        }),
+        Err(Fault::Query(fault)) => Ok(Reply {
+            status: 1,
+            text: fault_line(alloc, fault.code, fault.at)?,
+        }),
+        Err(Fault::NoMemory) => Err(AllocError),
+    }
+}
+
 /// Does what is asked of a corpus that was read.
 #[tactic(auto, unfolding(crate::specs::Output::corpus_outcome, crate::specs::Command::plain))]
 fn corpus_reply(
@@ -86,7 +108,8 @@ fn corpus_reply(
     command: Command,
     now: i64,
 ) -> Result<Reply, AllocError>
-    requires { list_all has_short_texts corpus.now.items ≡ true }
+    requires short { list_all has_short_texts corpus.now.items ≡ true }
+    requires items { list_all (is_item corpus.now.schema) corpus.now.items ≡ true }
     ensures reply { IfOk result (IsReply (corpus_outcome (plain command.entry) now (Ok corpus.now))) }
     ensures status { IfOk result (λ reply. reply.status ≤ 1) }
 {
@@ -106,6 +129,10 @@ fn corpus_reply(
             text,
         } => {
             let reply = ask_reply(alloc, corpus, caller, language, text, clamped(now))?;
+            Ok(reply)
+        }
+        Command::Lower { text } => {
+            let reply = lower_reply(alloc, corpus, text, clamped(now))?;
             Ok(reply)
         }
     }

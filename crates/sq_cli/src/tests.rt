@@ -1,8 +1,15 @@
-ghost use Rattle.std.specs.Prelude.{None};
+ghost use Rattle.std.specs.Prelude.{◌≡◌, ◌<◌, None, true, length};
+ghost use Rattle.std.specs.List.{list_all};
+ghost use Rattle.sq_model.specs.Valid.{has_short_texts};
 
 use crate::adapters::{Reading, Writing};
+use crate::command::Language;
+use crate::query::{query_of, typed_kql};
 use crate::run::run;
-use sq_base::{Failed, MemSink, MemSource, Source};
+use sq_base::{Failed, Fault, MemSink, MemSource, Source};
+use sq_corpus::read_corpus;
+use sq_model::{Corpus, FTree, KTree};
+use sq_slow::{fql_boost_slow, fql_holds_slow, kql_boost_slow, kql_holds_slow};
 use std::alloc::{AllocError, Global};
 use std::fs::File;
 use std::test::Fail;
@@ -188,6 +195,297 @@ Ann|int(5)|fault 310 at 0;\n\
 Bob|near(or(\"old bank\",merger),or(\"old bank\",merger),or(\"old bank\",merger),or(\"old bank\",merger),or(\"old bank\",merger),or(\"old bank\",merger),or(\"old bank\",merger),or(\"old bank\",merger),or(\"old bank\",merger))|fault 311 at 0;\n\
 Zed|(|fault 511 at 0;";
 
+// A line for each row: the KQL text, and what `lower` writes of it, in which `;` ends a line.
+const LOWERED_TEXTS: &str = "\
+debt|string(\"debt\");\n\
+Debt|string(\"Debt\");\n\
+\"company debt\"|string(\"company debt\");\n\
+acqui*|string(\"acqui*\");\n\
+\"old ban*\"|string(\"old ban*\");\n\
+Straße|string(\"Straße\");\n\
+a\\b|string(\"a\\\\b\");\n\
+\"a\\b c\"|string(\"a\\\\b c\");\n\
+7|string(7);\n\
+\"-7\"|string(-7);\n\
+007|string(007);\n\
+7.5|string(\"7.5\");\n\
+max|string(max);\n\
+MAX|string(\"MAX\");\n\
+\"min\"|string(min);\n\
+*|*;\n\
+WORDS(debt, \"old bank\")|words(\"debt\",\"old bank\");\n\
+WORDS(debt)|words(\"debt\");\n\
+WORDS(min, 07, x*)|words(min,07,\"x*\");\n\
+((debt))|string(\"debt\");\n\
++debt|string(\"debt\");\n\
+title:debt|title:string(\"debt\");\n\
+TITLE:debt|title:string(\"debt\");\n\
+title:\"debt no*\"|title:string(\"debt no*\");\n\
+title:5|title:string(5);\n\
+title=debt|title:equals(string(\"debt\"));\n\
+title=\"Debt notes\"|title:equals(string(\"Debt notes\"));\n\
+title<>debt|not(title:equals(string(\"debt\")));\n\
+size:5|size:5;\n\
+size:005|size:5;\n\
+size=-0|size:0;\n\
+size=\"-12\"|size:-12;\n\
+size<>5|not(size:5);\n\
+size<5|size:range(min,5,from=\"GE\",to=\"LT\");\n\
+size>-3|size:range(-3,max,from=\"GT\",to=\"LE\");\n\
+size<=5|size:range(min,5,from=\"GE\",to=\"LE\");\n\
+size>=5|size:range(5,max,from=\"GE\",to=\"LE\");\n\
+size:5..7|size:range(5,7,from=\"GE\",to=\"LE\");\n\
+size:7..-7|size:range(7,-7,from=\"GE\",to=\"LE\");\n\
+size<-9223372036854775808|size:range(min,-9223372036854775808,from=\"GE\",to=\"LT\");\n\
+size>9223372036854775807|size:range(9223372036854775807,max,from=\"GT\",to=\"LE\");\n\
+write:2024-02-29|write:range(\"2024-02-29T00:00:00Z\",\"2024-02-29T23:59:59Z\",from=\"GE\",to=\"LE\");\n\
+write=2024-02-29T12:00:00Z|write:range(\"2024-02-29T12:00:00Z\",\"2024-02-29T12:00:00Z\",from=\"GE\",to=\"LE\");\n\
+write<>2024-02-29|not(write:range(\"2024-02-29T00:00:00Z\",\"2024-02-29T23:59:59Z\",from=\"GE\",to=\"LE\"));\n\
+write<2024-02-29|write:range(min,\"2024-02-29T00:00:00Z\",from=\"GE\",to=\"LT\");\n\
+write>2024-02-29|write:range(\"2024-02-29T23:59:59Z\",max,from=\"GT\",to=\"LE\");\n\
+write<=2024-02-29|write:range(min,\"2024-02-29T23:59:59Z\",from=\"GE\",to=\"LE\");\n\
+write>=2024-02-29|write:range(\"2024-02-29T00:00:00Z\",max,from=\"GE\",to=\"LE\");\n\
+write:2023-12-31..2024-02-29|write:range(\"2023-12-31T00:00:00Z\",\"2024-02-29T23:59:59Z\",from=\"GE\",to=\"LE\");\n\
+write<0001-01-01|write:range(min,\"0001-01-01T00:00:00Z\",from=\"GE\",to=\"LT\");\n\
+write>9999-12-31|write:range(\"9999-12-31T23:59:59Z\",max,from=\"GT\",to=\"LE\");\n\
+write:today|write:range(\"2024-02-29T00:00:00Z\",\"2024-02-29T23:59:59Z\",from=\"GE\",to=\"LE\");\n\
+write=yesterday|write:range(\"2024-02-28T00:00:00Z\",\"2024-02-28T23:59:59Z\",from=\"GE\",to=\"LE\");\n\
+write:\"this week\"|write:range(\"2024-02-26T00:00:00Z\",\"2024-03-03T23:59:59Z\",from=\"GE\",to=\"LE\");\n\
+write:\"this month\"|write:range(\"2024-02-01T00:00:00Z\",\"2024-02-29T23:59:59Z\",from=\"GE\",to=\"LE\");\n\
+write:\"last month\"|write:range(\"2024-01-01T00:00:00Z\",\"2024-01-31T23:59:59Z\",from=\"GE\",to=\"LE\");\n\
+write:\"this year\"|write:range(\"2024-01-01T00:00:00Z\",\"2024-12-31T23:59:59Z\",from=\"GE\",to=\"LE\");\n\
+write:\"LAST YEAR\"|write:range(\"2023-01-01T00:00:00Z\",\"2023-12-31T23:59:59Z\",from=\"GE\",to=\"LE\");\n\
+write<\"this week\"|write:range(min,\"2024-02-26T00:00:00Z\",from=\"GE\",to=\"LT\");\n\
+write>yesterday|write:range(\"2024-02-28T23:59:59Z\",max,from=\"GT\",to=\"LE\");\n\
+write<>\"this week\"|not(write:range(\"2024-02-26T00:00:00Z\",\"2024-03-03T23:59:59Z\",from=\"GE\",to=\"LE\"));\n\
+write:2024-02-28..\"this week\"|write:range(\"2024-02-28T00:00:00Z\",\"2024-03-03T23:59:59Z\",from=\"GE\",to=\"LE\");\n\
+public:true|public:\"true\";\n\
+public=YES|public:\"true\";\n\
+public:1|public:\"true\";\n\
+public:no|public:\"false\";\n\
+public<>0|not(public:\"false\");\n\
+a NEAR b|near(string(\"a\"),string(\"b\"),N=8);\n\
+a NEAR(n=3) b|near(string(\"a\"),string(\"b\"),N=3);\n\
+a ONEAR b|onear(string(\"a\"),string(\"b\"),N=8);\n\
+a ONEAR(1000) b|onear(string(\"a\"),string(\"b\"),N=1000);\n\
+a NEAR b NEAR(2) c|near(near(string(\"a\"),string(\"b\"),N=8),string(\"c\"),N=2);\n\
+a ONEAR (b NEAR c)|onear(string(\"a\"),near(string(\"b\"),string(\"c\"),N=8),N=8);\n\
+(merger OR \"old bank\") NEAR(2) WORDS(new, 5)|near(or(string(\"merger\"),string(\"old bank\")),words(\"new\",5),N=2);\n\
+-a NEAR b|not(near(string(\"a\"),string(\"b\"),N=8));\n\
+a NEAR b c|and(near(string(\"a\"),string(\"b\"),N=8),string(\"c\"));\n\
+debt notes|and(string(\"debt\"),string(\"notes\"));\n\
+debt +notes 5|and(string(\"debt\"),string(\"notes\"),string(5));\n\
+(a b) c|and(and(string(\"a\"),string(\"b\")),string(\"c\"));\n\
+-debt|not(string(\"debt\"));\n\
+NOT debt|not(string(\"debt\"));\n\
+- debt|string(\"debt\");\n\
+-*|not(*);\n\
+* -debt|andnot(*,string(\"debt\"));\n\
+-a -b|not(or(string(\"a\"),string(\"b\")));\n\
+-a NOT b -c|not(or(string(\"a\"),string(\"b\"),string(\"c\")));\n\
+x -a|andnot(string(\"x\"),string(\"a\"));\n\
+-a x -b y|andnot(and(string(\"x\"),string(\"y\")),string(\"a\"),string(\"b\"));\n\
+-(a b)|not(and(string(\"a\"),string(\"b\")));\n\
+-title:a title:b|andnot(title:string(\"b\"),title:string(\"a\"));\n\
+-title:a -title:b|not(or(title:string(\"a\"),title:string(\"b\")));\n\
+title:debt title:board|or(title:string(\"debt\"),title:string(\"board\"));\n\
++title:debt +title:board|and(title:string(\"debt\"),title:string(\"board\"));\n\
+title:a +title:b|and(title:string(\"b\"),title:string(\"a\"));\n\
++title:a title:b title=c|and(title:string(\"a\"),or(title:string(\"b\"),title:equals(string(\"c\"))));\n\
+title<>a title:b|and(not(title:equals(string(\"a\"))),title:string(\"b\"));\n\
+(title:a) title:b title:c|and(title:string(\"a\"),or(title:string(\"b\"),title:string(\"c\")));\n\
+author:ann title:debt author:bob x|and(string(\"x\"),or(author:string(\"ann\"),author:string(\"bob\")),title:string(\"debt\"));\n\
+title:a author:b TITLE=c Author:d title:e|and(or(title:string(\"a\"),title:equals(string(\"c\")),title:string(\"e\")),or(author:string(\"b\"),author:string(\"d\")));\n\
+size:1 size=2 size:3..4 size>9|and(size:range(9,max,from=\"GT\",to=\"LE\"),or(size:1,size:2,size:range(3,4,from=\"GE\",to=\"LE\")));\n\
+size>=1 size<=9|and(size:range(1,max,from=\"GE\",to=\"LE\"),size:range(min,9,from=\"GE\",to=\"LE\"));\n\
+size<>1 size<>2 -x|andnot(and(not(size:1),not(size:2)),string(\"x\"));\n\
+public:yes public:no size:5|and(or(public:\"true\",public:\"false\"),size:5);\n\
+write:today size:5 write:yesterday|and(or(write:range(\"2024-02-29T00:00:00Z\",\"2024-02-29T23:59:59Z\",from=\"GE\",to=\"LE\"),write:range(\"2024-02-28T00:00:00Z\",\"2024-02-28T23:59:59Z\",from=\"GE\",to=\"LE\")),size:5);\n\
+(merger OR takeover) author:\"ann smith\" filetype:docx size>=5 -draft|andnot(and(or(string(\"merger\"),string(\"takeover\")),size:range(5,max,from=\"GE\",to=\"LE\"),author:string(\"ann smith\"),filetype:string(\"docx\")),string(\"draft\"));\n\
+a AND b|and(string(\"a\"),string(\"b\"));\n\
+a AND b c AND -d|and(string(\"a\"),and(string(\"b\"),string(\"c\")),not(string(\"d\")));\n\
+title:a title:b AND title:c|and(or(title:string(\"a\"),title:string(\"b\")),title:string(\"c\"));\n\
+title:a AND title:b|and(title:string(\"a\"),title:string(\"b\"));\n\
+a OR b OR c|or(string(\"a\"),string(\"b\"),string(\"c\"));\n\
+a b OR c AND d|or(and(string(\"a\"),string(\"b\")),and(string(\"c\"),string(\"d\")));\n\
+a OR -b|or(string(\"a\"),not(string(\"b\")));\n\
+debt XRANK(cb=5) before|xrank(string(\"debt\"),string(\"before\"),cb=5);\n\
+a XRANK(cb=1) b XRANK(n=9, cb=-2) c|xrank(xrank(string(\"a\"),string(\"b\"),cb=1),string(\"c\"),cb=-2);\n\
+a OR b XRANK(cb=1000000) c -d|xrank(or(string(\"a\"),string(\"b\")),andnot(string(\"c\"),string(\"d\")),cb=1000000);\n\
+x (a XRANK(cb=0) title:b)|and(string(\"x\"),xrank(string(\"a\"),title:string(\"b\"),cb=0));\n\
+|fault 102 at 0;\n\
+title:\"a|fault 103 at 6;\n\
+debt AND|fault 104 at 8;\n\
+a) b|fault 105 at 1;\n\
+(debt|fault 106 at 5;\n\
+x NEAR(n=1001) y|fault 108 at 2;\n\
+debt XRANK(rb=0.4) x|fault 109 at 11;\n\
+WORDS(title:x)|fault 110 at 0;\n\
+title:|fault 111 at 6;\n\
+ba*k|fault 112 at 2;\n\
++-debt|fault 113 at 1;\n\
+x colour:red|fault 301 at 2;\n\
+title<a|fault 302 at 0;\n\
+title:a..b|fault 302 at 0;\n\
+size<abc colour:red|fault 303 at 5;\n\
+size:99999999999999999999|fault 304 at 5;\n\
+write:2023-02-29|fault 305 at 6;\n\
+public:maybe|fault 306 at 7;\n\
+title:\"&\"|fault 307 at 6;\n\
+debt NEAR size:7|fault 308 at 10;\n\
+(a OR \"a b\") NEAR (a OR \"a b\") NEAR (a OR \"a b\") NEAR (a OR \"a b\") NEAR (a OR \"a b\")|fault 311 at 0;";
+
+// KQL texts of every construct, one in each line.
+const KQL_FORMS: &str = "\
+debt\n\
+DEBT\n\
+\"company debt\"\n\
+\"notes acquisition\"\n\
+acqui*\n\
+\"old ban*\"\n\
+a*\n\
+*\n\
+WORDS(debt, merger)\n\
+WORDS(\"old bank\", board, 5)\n\
+WORDS(nothing)\n\
+((debt))\n\
+old & bank\n\
+- debt\n\
++debt\n\
+-debt\n\
+NOT debt\n\
+-*\n\
+title:debt\n\
+title:\"annual report\"\n\
+title:rep*\n\
+title=debt\n\
+title=\"debt notes\"\n\
+title=\"debt no*\"\n\
+title<>\"annual report\"\n\
+title<>debt\n\
+title<>nothing\n\
+author:ann\n\
+author=\"Ann Smith\"\n\
+author<>\"ann smith\"\n\
+filetype:docx\n\
+filetype<>docx\n\
+size:5\n\
+size=7\n\
+size:-1\n\
+size<>7\n\
+size<>9\n\
+size<7\n\
+size<5\n\
+size>5\n\
+size>7\n\
+size<=5\n\
+size<=-9223372036854775808\n\
+size<-9223372036854775808\n\
+size>=6\n\
+size>=9223372036854775807\n\
+size>9223372036854775807\n\
+size:5..7\n\
+size:6..6\n\
+size:7..5\n\
+write:2024-02-29\n\
+write=2024-02-29T12:00:00Z\n\
+write:2024-02-29T12:00:01Z\n\
+write<>2024-02-29\n\
+write<2024-02-29\n\
+write<2024-03-01\n\
+write<=2024-02-29\n\
+write>2024-02-29\n\
+write>2024-02-28\n\
+write>=2024-02-29T12:00:00Z\n\
+write<0001-01-01\n\
+write>9999-12-31\n\
+write:2024-02-28..2024-03-01\n\
+write:2024-03-01..2024-02-28\n\
+write:today\n\
+write:yesterday\n\
+write:\"this week\"\n\
+write:\"this month\"\n\
+write:\"last month\"\n\
+write:\"this year\"\n\
+write:\"last year\"\n\
+write<>\"this week\"\n\
+write<\"this week\"\n\
+write>=yesterday\n\
+write:2024-02-28..\"this week\"\n\
+public:true\n\
+public<>true\n\
+public:no\n\
+public<>no\n\
+acquisition NEAR debt\n\
+acquisition NEAR(0) debt\n\
+acquisition NEAR(n=1) debt\n\
+debt ONEAR acquisition\n\
+acquisition ONEAR(n=2) debt\n\
+acquisition ONEAR(n=1) debt\n\
+merger NEAR old NEAR new\n\
+(merger NEAR old) NEAR(n=4) new\n\
+merger NEAR(n=2) (\"old bank\" OR bank)\n\
+\"old bank\" ONEAR(n=2) bank\n\
+(merger OR acquisition) NEAR(n=2) (bank OR debt)\n\
+WORDS(merger, acquisition) NEAR(n=2) WORDS(\"old bank\", debt)\n\
+m* NEAR m* NEAR (m* OR \"old bank\") NEAR m*\n\
+(a OR \"a b\") NEAR (a OR \"a b\") NEAR (a OR \"a b\") NEAR (a OR \"a b\")\n\
+-merger NEAR bank\n\
+debt notes\n\
+debt notes company\n\
+notes company -board\n\
+-board -merger\n\
+-debt NOT bank\n\
+* -debt\n\
+debt -nothing -board\n\
+-(debt notes)\n\
+-(debt OR merger) -board\n\
+title:debt title:board\n\
+title:debt title:nothing\n\
++title:debt title:board\n\
++title:debt +title:board\n\
+title:debt +size:7\n\
+title<>debt title:board\n\
+title:debt title:board size:5 size:7\n\
+title:debt size:7 title:board size:9\n\
+size:5..6 size:7 title:memo\n\
+size>=5 size<=6\n\
+size<>5 size<>7\n\
+(title:debt) title:board\n\
+-title:debt title:board\n\
+-title:debt -title:board\n\
+title:debt title=memo -size:7\n\
+public:yes public:no\n\
+author:ann title:annual filetype:docx\n\
+(merger OR takeover) author:\"ann smith\" filetype:docx size>=5 -draft\n\
+debt AND notes\n\
+debt AND notes AND size:7\n\
+title:debt title:board AND size:7\n\
+debt AND -board\n\
+debt and notes\n\
+debt OR merger\n\
+debt OR merger OR board\n\
+docx OR (old AND new)\n\
+debt notes OR memo\n\
+debt AND notes OR bank AND new\n\
+-debt OR title:debt\n\
+debt XRANK(cb=5) before\n\
+debt XRANK(cb=-5) (before OR acquisition)\n\
+debt XRANK(cb=5) before XRANK(cb=7) notes\n\
+(title:debt XRANK(cb=-5) notes) OR memo\n\
+(debt XRANK(cb=5) before) (debt XRANK(cb=7) notes)\n\
+(debt XRANK(cb=5) before) AND (debt XRANK(cb=7) before)\n\
+(debt XRANK(cb=5) before) OR (debt XRANK(cb=7) notes) OR (* XRANK(cb=9) bank)\n\
+* XRANK(cb=3) -debt\n\
+* XRANK(cb=3) title:debt title:board\n\
+-(debt XRANK(cb=5) before)\n\
+(* XRANK(cb=3) debt) -(debt XRANK(cb=5) before)\n\
+(title:debt XRANK(cb=5) debt) title:board\n\
++(debt XRANK(cb=5) *) size:7\n\
+* XRANK(cb=1) (debt XRANK(cb=100) debt)\n\
+(* XRANK(cb=1000000) size:5..7) XRANK(cb=-1000000) write<>today\n\
+nothing XRANK(cb=5) debt";
+
 // The text with its line ends.
 fn lines_of(alloc: Global, text: &str) -> Result<String, AllocError> {
     let mut lines = String::new(alloc);
@@ -233,11 +531,77 @@ fn fql_texts_are_answered_or_refused(rt: HostRuntime) -> Result<(), Fail> {
     Ok(())
 }
 
+#[test]
+fn kql_texts_are_lowered_or_refused(rt: HostRuntime) -> Result<(), Fail> {
+    let alloc = rt.alloc();
+    for row in LOWERED_TEXTS.split('\n') {
+        let (text, sent) = row.split_once('|').unwrap_or((row, ""));
+        let corpus = source_of(alloc, "", "", false)?;
+        let (status, written) = asked(alloc, corpus, &["lower", text])?;
+        assert_eq!(rt; status, sent.starts_with("fault") as u8, "at {row}");
+        assert_eq!(rt;
+            written.as_slice(),
+            lines_of(alloc, sent)?.as_bytes(),
+            "at {row}"
+        );
+    }
+    Ok(())
+}
+
+/// Whether both trees hold of the item in a row, or both don't, and give it the same boost.
+fn is_same_in(
+    alloc: Global,
+    corpus: &Corpus,
+    tree: &KTree,
+    lowered: &FTree,
+    row: u32,
+) -> Result<bool, AllocError>
+    requires row { row < length corpus.now.items }
+    requires short { list_all has_short_texts corpus.now.items ≡ true }
+{
+    Ok(
+        kql_holds_slow(alloc, corpus, tree, row)? == fql_holds_slow(alloc, corpus, lowered, row)?
+            && kql_boost_slow(alloc, corpus, tree, row)?
+                == fql_boost_slow(alloc, corpus, lowered, row)?,
+    )
+}
+
+/// Whether the tree of a KQL text and its lowered tree are the same for each item.
+fn is_same(alloc: Global, corpus: &Corpus, text: &str) -> Result<bool, Fault>
+    requires { list_all has_short_texts corpus.now.items ≡ true }
+{
+    let tree = typed_kql(alloc, &corpus.schema, text, MOMENT)?;
+    let lowered = query_of(alloc, &corpus.schema, Language::Kql, text, MOMENT)?;
+    let Ok(count) = u32::try_from(corpus.items.len()) else {
+        return Ok(false);
+    };
+    for row in 0..count {
+        match is_same_in(alloc, corpus, &tree, &lowered, row) {
+            Ok(true) => {}
+            Ok(false) => return Ok(false),
+            Err(_) => return Err(Fault::NoMemory),
+        }
+    }
+    Ok(true)
+}
+
+#[test]
+fn a_lowered_tree_holds_of_the_same_items_with_the_same_boosts(
+    rt: HostRuntime,
+) -> Result<(), Fail> {
+    let alloc = rt.alloc();
+    let corpus = read_corpus(alloc, WORKED.as_bytes())?;
+    for text in KQL_FORMS.split('\n') {
+        assert!(rt; is_same(alloc, &corpus, text)?, "at {text}");
+    }
+    Ok(())
+}
+
 /// Other words, and the worked corpus with one text in another's place.
 #[test]
 fn words_have_their_status_and_text(rt: HostRuntime) -> Result<(), Fail> {
     let alloc = rt.alloc();
-    let table: [(&[&str], (&str, &str), u8, &str); 13] = [
+    let table: [(&[&str], (&str, &str), u8, &str); 16] = [
         (
             &["ask", "Ann", "kql", "STRASSE"],
             ("merger of the old bank and the new bank", "Straße"),
@@ -289,6 +653,17 @@ fn words_have_their_status_and_text(rt: HostRuntime) -> Result<(), Fail> {
             3,
             "corpus fault 606 line 19\n",
         ),
+        (
+            &["lower", "size>5"],
+            (
+                "property\tsize",
+                "property\tSize_of\tinteger\t-\nproperty\tsize",
+            ),
+            0,
+            "size:range(5,max,from=\"GT\",to=\"LE\")\n",
+        ),
+        (&["lower"], ("", ""), 2, ""),
+        (&["lower", "debt", "kql"], ("", ""), 2, ""),
         (&[], ("", ""), 2, ""),
         (&["ask", "Ann"], ("", ""), 2, ""),
         (&["ask", "Ann", "sql", "debt"], ("", ""), 2, ""),
