@@ -1,5 +1,5 @@
 -- The typed tree of a lowered tree.
-use Rattle.std.specs.Prelude.{ℕ, Bool, true, false, List, [], ◌∷◌, ◌++◌, map, slice_get, Option, Some, None, ℤ}
+use Rattle.std.specs.Prelude.{ℕ, true, false, List, [], ◌∷◌, ◌++◌, map, slice_get, Option, Some, None, ℤ}
 use Rattle.sq_schema.specs.declared.interval.Interval.{Interval}
 use Rattle.sq_schema.specs.declared.property.Kind.{Kind}
 use Rattle.sq_schema.specs.declared.property.Kind.TheVariants as kind

@@ -1,5 +1,4 @@
-use Rattle.std.proofs.Common.{◌≡◌, sym, ◌∙◌, subst}
-use Rattle.std.specs.Prelude.{Ok}
+use Rattle.std.proofs.Common.{◌≡◌, subst}
 use Rattle.sq_lower.specs.Law.{IsSame}
 use Rattle.sq_lower.proofs.Form.{form}
 use Rattle.sq_lower.proofs.MeaningBoost.{form_is_same}
