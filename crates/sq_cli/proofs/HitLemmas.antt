@@ -1,5 +1,5 @@
 -- The order of hits is one, and hits of which neither comes before the other are equal.
-use Rattle.std.proofs.Common.{◌≡◌, true, false, refl, ap, ◌∙◌, arith}
+use Rattle.std.proofs.Common.{◌≡◌, false, ap, ◌∙◌, arith}
 use Rattle.std.proofs.lemmas.Int.{ints}
 use Rattle.std.specs.Cmp.{IsStrictWeakOrder}
 use Rattle.sq_cli.specs.declared.hit.Hit.{Hit}

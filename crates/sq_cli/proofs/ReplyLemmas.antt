@@ -1,5 +1,5 @@
 -- What is owed for the bytes that a read took, and for a corpus of too many.
-use Rattle.std.proofs.Common.{◌≡◌, ℕ, ◌+◌, ◌≤◌, List, [], ◌++◌, length, Option, Some, None, Bool, true, false, IfSome, refl, sym, ap, ◌∙◌, arith, ℤ}
+use Rattle.std.proofs.Common.{◌≡◌, ℕ, ◌+◌, ◌≤◌, List, [], ◌++◌, length, Option, Some, None, true, false, IfSome, sym, ap, ◌∙◌, arith, ℤ}
 use Rattle.std.specs.Prelude.{nat_le, string_bytes}
 use Rattle.std.specs.Io.KnownBytes.{Consumes, IsAtEnd}
 use Rattle.std.proofs.lemmas.Bool.Decides.{nat_tests}

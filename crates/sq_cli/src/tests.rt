@@ -566,23 +566,41 @@ fn is_same_in(
     )
 }
 
+/// The same for each item.
+fn is_same_in_all(
+    alloc: Global,
+    corpus: &Corpus,
+    tree: &KTree,
+    lowered: &FTree,
+) -> Result<bool, AllocError>
+    requires { list_all has_short_texts corpus.now.items ≡ true }
+{
+    let Ok(count) = u32::try_from(corpus.items.len()) else {
+        return Ok(false);
+    };
+    for row in 0..count {
+        if !is_same_in(alloc, corpus, tree, lowered, row)? {
+            return Ok(false);
+        }
+    }
+    Ok(true)
+}
+
+fn is_same_lowered(alloc: Global, corpus: &Corpus, text: &str, tree: &KTree) -> Result<bool, Fault>
+    requires { list_all has_short_texts corpus.now.items ≡ true }
+{
+    let lowered = query_of(alloc, &corpus.schema, Language::Kql, text, MOMENT)?;
+    let same = is_same_in_all(alloc, corpus, tree, &lowered)?;
+    Ok(same)
+}
+
 /// Whether the tree of a KQL text and its lowered tree are the same for each item.
 fn is_same(alloc: Global, corpus: &Corpus, text: &str) -> Result<bool, Fault>
     requires { list_all has_short_texts corpus.now.items ≡ true }
 {
     let tree = typed_kql(alloc, &corpus.schema, text, MOMENT)?;
-    let lowered = query_of(alloc, &corpus.schema, Language::Kql, text, MOMENT)?;
-    let Ok(count) = u32::try_from(corpus.items.len()) else {
-        return Ok(false);
-    };
-    for row in 0..count {
-        match is_same_in(alloc, corpus, &tree, &lowered, row) {
-            Ok(true) => {}
-            Ok(false) => return Ok(false),
-            Err(_) => return Err(Fault::NoMemory),
-        }
-    }
-    Ok(true)
+    let same = is_same_lowered(alloc, corpus, text, &tree)?;
+    Ok(same)
 }
 
 #[test]

@@ -1,4 +1,4 @@
-use Rattle.std.proofs.Common.{rules, ◌≡◌, ◌∙◌, ◌<◌, ◌≤◌, sym, refl, length, arith}
+use Rattle.std.proofs.Common.{rules, ◌∙◌, ◌<◌, ◌≤◌, length}
 use Rattle.sq_cli.specs.Query.{Fql}
 use Rattle.sq_cli.specs.Verdict.{hit_in}
 use Rattle.sq_cli.proofs.FilterLemmas.{one_more, none_left}
