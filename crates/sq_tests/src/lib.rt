@@ -2,4 +2,8 @@
 #![tactic(auto)]
 
 #[cfg(test)]
+mod fql_typing;
+#[cfg(test)]
 mod kql_reading;
+#[cfg(test)]
+mod kql_typing;

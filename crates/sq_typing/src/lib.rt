@@ -11,8 +11,6 @@ mod fql_near;
 mod fql_numbers;
 mod fql_patterns;
 mod fql_place;
-#[cfg(test)]
-mod fql_tests;
 mod fql_texts;
 mod kql;
 mod kql_build;
@@ -24,6 +22,3 @@ mod together;
 
 pub use fql::type_fql;
 pub use kql::type_kql;
-
-#[cfg(test)]
-mod tests;
