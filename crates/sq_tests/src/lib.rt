@@ -3,3 +3,7 @@
 
 #[cfg(test)]
 mod kql_reading;
+#[cfg(test)]
+mod lowering;
+#[cfg(test)]
+mod slow;
