@@ -17,7 +17,7 @@ use sq_typing::{type_fql, type_kql};
 use std::alloc::Global;
 
 /// The typed tree of a KQL text.
-pub fn typed_kql(alloc: Global, schema: &Schema, text: &str, now: i64) -> Result<KTree, Fault>
+fn typed_kql(alloc: Global, schema: &Schema, text: &str, now: i64) -> Result<KTree, Fault>
     requires { now ≡ clamped now }
     ensures typed { Gives (λ tree. tree) result (spec.kql_typed schema.now now text.now) }
     ensures sound { IfOk result (IsSound schema.now) }

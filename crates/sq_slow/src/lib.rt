@@ -16,8 +16,6 @@ mod restrictions;
 mod runs;
 mod seen;
 mod sums;
-#[cfg(test)]
-mod tests;
 mod text_value;
 
 pub use fql_slow::{fql_boost_slow, fql_holds_slow};

@@ -7,3 +7,7 @@ mod fql_typing;
 mod kql_reading;
 #[cfg(test)]
 mod kql_typing;
+#[cfg(test)]
+mod lowering;
+#[cfg(test)]
+mod slow;
