@@ -93,6 +93,8 @@ size:range(1,and(b))|302|13\n\
 size:range(1,title:b)|302|13\n\
 size:range(int(1),int(2))|0|0\n\
 write:range(int(1),max)|302|12\n\
+near(or(a,\"a a\"),or(a,\"a a\"),or(a,\"a a\"),or(a,\"a a\"),or(a,\"a a\"),or(a,\"a a\"),or(a,\"a a\"),or(a,\"a a\"))|0|0\n\
+near(or(a,\"a a\"),or(a,\"a a\"),or(a,\"a a\"),or(a,\"a a\"),or(a,\"a a\"),or(a,\"a a\"),or(a,\"a a\"),or(a,\"a a\"),or(a,\"a a\"))|311|0\n\
 and(a,near(or(\"old bank\",merger),or(\"old bank\",merger),or(\"old bank\",merger),or(\"old bank\",merger),or(\"old bank\",merger),or(\"old bank\",merger),or(\"old bank\",merger),or(\"old bank\",merger),or(\"old bank\",merger)))|311|6";
 
 #[test]

@@ -30,8 +30,8 @@ fn outcome(alloc: Global, schema: &Schema, text: &str) -> (u16, u32) {
     }
 }
 
-// A line for each text: the text, its fault's code and its place, 0 and 0 where it is typed. The last three have
-// 192, 1920 and 1920 forms: too many forms are looked for last.
+// A line for each text: the text, its fault's code and its place, 0 and 0 where it is typed. The last nine have
+// 192, 1920, 1920, 256, 512, 240, 260, 256 and 272 forms: too many forms are looked for last.
 const TYPED_TEXTS: &str = "\
 size<abc colour:red|303|5\n\
 size<abc|303|5\n\
@@ -54,7 +54,13 @@ debt NEAR (size:abc x)|308|11\n\
 debt NEAR *|308|10\n\
 (a OR \"b c\") NEAR (a OR \"b c\") NEAR (a OR \"b c\") NEAR (a OR \"b c\")|0|0\n\
 (a OR \"b c\") NEAR (a OR \"b c\") NEAR (a OR \"b c\") NEAR (a OR \"b c\") NEAR (a OR \"b c\")|311|0\n\
-(a OR \"b c\") NEAR (a OR \"b c\") NEAR (a OR \"b c\") NEAR (a OR \"b c\") NEAR (a OR \"b c\") colour:red|301|85";
+(a OR \"b c\") NEAR (a OR \"b c\") NEAR (a OR \"b c\") NEAR (a OR \"b c\") NEAR (a OR \"b c\") colour:red|301|85\n\
+WORDS(a, \"a a\") NEAR WORDS(a, \"a a a\") NEAR WORDS(a, \"a a a a a\") NEAR WORDS(\"a a a a\", \"a a a a\", \"a a a a\")|0|0\n\
+WORDS(a, \"a a\") NEAR WORDS(a, \"a a a\") NEAR WORDS(a, \"a a a a a\") NEAR WORDS(\"a a a a\", \"a a a a\", \"a a a a a\")|311|0\n\
+(WORDS(a, \"a a\") NEAR WORDS(a, \"a a a\") OR a) NEAR WORDS(a, \"a a\", \"a a a\", \"a a a a\", \"a a a a a\", \"a a a a a a\", \"a a a a a a a\", \"a a a a a a a a\", \"a a a a a a a a a\", \"a a a a a a a a a a\", \"a a a a a a a a a a a\", \"a a a a a a a a a a a a\")|0|0\n\
+(WORDS(a, \"a a\") NEAR WORDS(a, \"a a a\") OR a) NEAR WORDS(a, \"a a\", \"a a a\", \"a a a a\", \"a a a a a\", \"a a a a a a\", \"a a a a a a a\", \"a a a a a a a a\", \"a a a a a a a a a\", \"a a a a a a a a a a\", \"a a a a a a a a a a a\", \"a a a a a a a a a a a a\", \"a a a a a a a a a a a a a\")|311|0\n\
+WORDS(a, \"a a\", \"a a a\", \"a a a a\", \"a a a a a\", \"a a a a a a\", \"a a a a a a a\", \"a a a a a a a a\", \"a a a a a a a a a\", \"a a a a a a a a a a\", \"a a a a a a a a a a a\", \"a a a a a a a a a a a a\", \"a a a a a a a a a a a a a\", \"a a a a a a a a a a a a a a\", \"a a a a a a a a a a a a a a a\", \"a a a a a a a a a a a a a a a a\") NEAR WORDS(a, \"a a\", \"a a a\", \"a a a a\", \"a a a a a\", \"a a a a a a\", \"a a a a a a a\", \"a a a a a a a a\", \"a a a a a a a a a\", \"a a a a a a a a a a\", \"a a a a a a a a a a a\", \"a a a a a a a a a a a a\", \"a a a a a a a a a a a a a\", \"a a a a a a a a a a a a a a\", \"a a a a a a a a a a a a a a a\", \"a a a a a a a a a a a a a a a a\")|0|0\n\
+WORDS(a, \"a a\", \"a a a\", \"a a a a\", \"a a a a a\", \"a a a a a a\", \"a a a a a a a\", \"a a a a a a a a\", \"a a a a a a a a a\", \"a a a a a a a a a a\", \"a a a a a a a a a a a\", \"a a a a a a a a a a a a\", \"a a a a a a a a a a a a a\", \"a a a a a a a a a a a a a a\", \"a a a a a a a a a a a a a a a\", \"a a a a a a a a a a a a a a a a\") NEAR WORDS(a, \"a a\", \"a a a\", \"a a a a\", \"a a a a a\", \"a a a a a a\", \"a a a a a a a\", \"a a a a a a a a\", \"a a a a a a a a a\", \"a a a a a a a a a a\", \"a a a a a a a a a a a\", \"a a a a a a a a a a a a\", \"a a a a a a a a a a a a a\", \"a a a a a a a a a a a a a a\", \"a a a a a a a a a a a a a a a\", \"a a a a a a a a a a a a a a a a\", \"a a a a a a a a a a a a a a a a a\")|311|0";
 
 #[test]
 fn a_text_is_typed_or_refused_by_the_fault_that_goes_first(rt: HostRuntime) -> Result<(), Fail> {

@@ -65,8 +65,6 @@ module _ (parts : List SpanTree) where
     pub filled_near : is_filled (Near parts n ordered) ≡ true → list_all is_filled parts ≡ true
     filled_near filled = and_right _ _ (sym filled_here ∙ filled)
 
-pub ruleset built_rules = (built_union, built_near)
-
 pub ruleset span_rules = (weights_union, copies_union, weights_near, copies_near)
 
 mutual
