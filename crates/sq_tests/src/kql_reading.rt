@@ -24,7 +24,11 @@ fn a_text_is_read_or_refused_at_its_place(rt: HostRuntime) -> Result<(), Fail> {
     for row in READ_TEXTS.split('\n') {
         let (text, answer) = row.split_once('|').unwrap_or((row, ""));
         let (code, at) = outcome(alloc, text);
-        assert_eq!(rt; format!(in alloc; "{code}|{at}")?.as_str(), answer, "at {row}");
+        assert_eq!(rt;
+            format!(in alloc; "{code}|{at}")?.as_str(),
+            answer,
+            "at {row}"
+        );
     }
     Ok(())
 }

@@ -2,4 +2,6 @@
 #![tactic(auto)]
 
 #[cfg(test)]
+mod corpus;
+#[cfg(test)]
 mod kql_reading;

@@ -1,4 +1,4 @@
-use crate::{CorpusFault, read_corpus, write_corpus};
+use sq_corpus::{CorpusFault, read_corpus, write_corpus};
 use sq_model::Corpus;
 use std::alloc::{AllocError, Global};
 use std::test::Fail;
@@ -14,7 +14,8 @@ const HEAD: &str =
 const ITEM: &str = "item\t5\t0\thttp://s/5\nallow\tstaff\ndeny\n";
 
 // A line for each text: the code and the line of its fault, 0 and 0 where it has none; `head` or `item` where it stands behind those
-// lines; and the text, in which `|` is a TAB and `;` ends a line.
+// lines; and the text, in which `|` is a TAB, `;` ends a line, `~` is the byte 255 and `^` the byte 195: no text of UTF-8 has the first,
+// nor the second before a TAB.
 const FAULTS: &str = "\
 602 1==\n\
 602 1==SQCORPUS 2;\n\
@@ -97,7 +98,66 @@ const FAULTS: &str = "\
 607 11=item=value|public|yes;\n\
 607 11=item=value|public|TRUE;\n\
 602 11=item=value|title|x\n\
-604 11=item=value|colour|x;value|title;";
+604 11=item=value|colour|x;value|title;\n\
+601 1==~\n\
+601 2==SQCORPUS 1;~;\n\
+601 2==SQCORPUS 1;caller|Ann^|\u{1};\n\
+602 2==SQCORPUS 1;property;~;";
+
+// A line for each text: it, and what is written of the corpus that it spells, both behind the front lines and spelled as above.
+const WRITTEN: &str = "\
+item|05|-0|a\\\\b;allow;deny|x;value|size|-07;value|TAGS|a\\tb\\n\\r\rc;value|public|true;value|tags|;=\
+item|5|0|a\\\\b;allow;deny|x;value|size|-7;value|public|true;value|tags|a\\tb\\n\\r\\rc;value|tags|;\n\
+item|5|0|a\\\\b;allow;deny|x;value|size|-7;value|public|true;value|tags|a\\tb\\n\\r\\rc;value|tags|;=\
+item|5|0|a\\\\b;allow;deny|x;value|size|-7;value|public|true;value|tags|a\\tb\\n\\r\\rc;value|tags|;";
+
+// A line for each text: the code and the line of its fault; a front; a piece that follows so many times, in which `#` is the number of
+// its repetition; and a back; all spelled as above.
+const LIMITS: &str = "\
+0 0=SQCORPUS 1;caller|=x=128=;\n\
+607 2=SQCORPUS 1;caller|=x=129=;\n\
+0 0=SQCORPUS 1;caller|Ann|=x=128=;\n\
+607 2=SQCORPUS 1;caller|Ann|=x=129=;\n\
+0 0=SQCORPUS 1;caller|Ann=|x=65=;\n\
+0 0=SQCORPUS 1;item|1|0|u;allow=|x=64=;deny;\n\
+608 3=SQCORPUS 1;item|1|0|u;allow=|x=65=;deny;\n\
+607 3=SQCORPUS 1;item|1|0|u;allow=|x=65=|;deny;\n\
+608 4=SQCORPUS 1;item|1|0|u;allow;deny=|x=65=;\n\
+0 0=SQCORPUS 1;property|p|text|m;item|1|0|u;allow;deny;=value|p|x;=1000=\n\
+608 1006=SQCORPUS 1;property|p|text|m;item|1|0|u;allow;deny;=value|p|x;=1001=\n\
+0 0=SQCORPUS 1;=property|p#|text|-;=64=\n\
+608 66=SQCORPUS 1;=property|p#|text|-;=65=\n\
+0 0=SQCORPUS 1;=caller|x#;=10000=\n\
+608 10002=SQCORPUS 1;=caller|x#;=10001=";
+
+/// The bytes of a text as the tables spell it.
+fn bytes_of(alloc: Global, text: &str) -> Result<Vec<u8>, AllocError> {
+    let mut bytes = Vec::new(alloc);
+    for byte in text.bytes() {
+        bytes.push(match byte {
+            b'|' => b'\t',
+            b';' => b'\n',
+            b'~' => 255,
+            b'^' => 195,
+            byte => byte,
+        })?;
+    }
+    Ok(bytes)
+}
+
+/// The front, and so many times the piece, with its number in the place of `#`.
+fn repeated(alloc: Global, front: &str, piece: &str, count: u32) -> Result<String, AllocError> {
+    let mut text = String::from_str(alloc, front)?;
+    for number in 0..count {
+        match piece.split_once('#') {
+            Some((before, behind)) => text.push_str(&format!(in alloc;
+                "{before}{number}{behind}"
+            )?)?,
+            None => text.push_str(piece)?,
+        }
+    }
+    Ok(text)
+}
 
 fn read(alloc: Global, bytes: &[u8]) -> Result<Corpus, CorpusFault> {
     if bytes.len() > 67_108_864 {
@@ -106,30 +166,39 @@ fn read(alloc: Global, bytes: &[u8]) -> Result<Corpus, CorpusFault> {
     read_corpus(alloc, bytes)
 }
 
-// The text that is written of the corpus that a text spells. None where it spells none.
-fn written_again(alloc: Global, text: &str) -> Result<Option<Vec<u8>>, AllocError> {
-    if text.len() > 67_108_864 {
-        return Ok(None);
-    }
-    match read_corpus(alloc, text.as_bytes()) {
-        Ok(corpus) => Ok(Some(write_corpus(alloc, &corpus)?)),
+/// The code and the line of the text's fault, and 0 where it has none.
+fn outcome(alloc: Global, text: &str) -> Result<String, AllocError> {
+    let bytes = bytes_of(alloc, text)?;
+    match read(alloc, bytes.as_slice()) {
+        Ok(_) => String::from_str(alloc, "0 0"),
+        Err(CorpusFault::Line { code, line }) => format!(in alloc; "{code} {line}"),
         Err(CorpusFault::NoMemory) => Err(AllocError),
-        Err(_) => Ok(None),
     }
 }
 
-// The code and the line of the text's fault, and 0 where it has none.
-fn fault(alloc: Global, bytes: &[u8]) -> Result<(u16, u32), AllocError> {
-    match read(alloc, bytes) {
-        Ok(_) => Ok((0, 0)),
-        Err(CorpusFault::Line { code, line }) => Ok((code, line)),
-        Err(CorpusFault::NoMemory) => Err(AllocError),
+/// Whether the first text spells a corpus, and the second is what is written of it.
+fn is_written_as(alloc: Global, text: &[u8], want: &[u8]) -> Result<bool, AllocError> {
+    if text.len() > 67_108_864 {
+        return Ok(false);
     }
+    match read_corpus(alloc, text) {
+        Ok(corpus) => Ok(write_corpus(alloc, &corpus)?.as_slice() == want),
+        Err(CorpusFault::NoMemory) => Err(AllocError),
+        Err(_) => Ok(false),
+    }
+}
+
+/// The same behind the front lines.
+fn is_written_behind(alloc: Global, text: &str, want: &str) -> Result<bool, AllocError> {
+    let text = bytes_of(alloc, &format!(in alloc; "{HEAD}{text}")?)?;
+    let want = bytes_of(alloc, &format!(in alloc; "{HEAD}{want}")?)?;
+    is_written_as(alloc, text.as_slice(), want.as_slice())
 }
 
 #[test]
-fn the_worked_corpus_is_read(rt: HostRuntime) -> Result<(), Fail> {
-    match read(rt.alloc(), WORKED.as_bytes()) {
+fn the_worked_corpus_is_read_and_written(rt: HostRuntime) -> Result<(), Fail> {
+    let alloc = rt.alloc();
+    match read(alloc, WORKED.as_bytes()) {
         Ok(corpus) => {
             assert_eq!(rt; corpus.schema.len(), 7);
             assert_eq!(rt; corpus.callers.len(), 2);
@@ -137,44 +206,18 @@ fn the_worked_corpus_is_read(rt: HostRuntime) -> Result<(), Fail> {
         }
         Err(_) => assert!(rt; false, "the worked corpus is refused"),
     }
+    assert!(rt; is_written_as(alloc, WORKED.as_bytes(), WORKED.as_bytes())?);
     Ok(())
 }
 
 #[test]
 fn what_was_read_is_written(rt: HostRuntime) -> Result<(), Fail> {
     let alloc = rt.alloc();
-    let loose = format!(in alloc;
-        "{HEAD}item\t05\t-0\ta\\\\b\nallow\ndeny\tx\nvalue\tsize\t-07\nvalue\tTAGS\ta\\tb\\n\\r\rc\nvalue\tpublic\ttrue\nvalue\ttags\t\n"
-    )?;
-    let strict = format!(in alloc;
-        "{HEAD}item\t5\t0\ta\\\\b\nallow\ndeny\tx\nvalue\tsize\t-7\nvalue\tpublic\ttrue\nvalue\ttags\ta\\tb\\n\\r\\rc\nvalue\ttags\t\n"
-    )?;
-    for (text, want) in [(WORKED, WORKED), (&*loose, &*strict), (&*strict, &*strict)] {
-        match written_again(alloc, text)? {
-            Some(bytes) => assert!(rt; bytes.as_slice() == want.as_bytes(), "at {text}"),
-            None => assert!(rt; false, "a text is refused: {text}"),
-        }
+    for row in WRITTEN.split('\n') {
+        let (text, want) = row.split_once('=').unwrap_or((row, ""));
+        assert!(rt; is_written_behind(alloc, text, want)?, "at {row}");
     }
     Ok(())
-}
-
-// The text behind its front lines.
-fn spelled(alloc: Global, front: &str, text: &str) -> Result<String, AllocError> {
-    let mut all = String::new(alloc);
-    if front != "" {
-        all.push_str(HEAD)?;
-    }
-    if front == "item" {
-        all.push_str(ITEM)?;
-    }
-    for c in text.chars() {
-        match c {
-            '|' => all.push('\t')?,
-            ';' => all.push('\n')?,
-            c => all.push(c)?,
-        }
-    }
-    Ok(all)
 }
 
 #[test]
@@ -183,92 +226,27 @@ fn the_first_fault_is_answered(rt: HostRuntime) -> Result<(), Fail> {
     for row in FAULTS.split('\n') {
         let (want, rest) = row.split_once('=').unwrap_or((row, ""));
         let (front, text) = rest.split_once('=').unwrap_or(("", rest));
-        let text = spelled(alloc, front, text)?;
-        let (code, line) = fault(alloc, text.as_bytes())?;
-        let found = format!(in alloc; "{code} {line}")?;
+        let head = if front == "" { "" } else { HEAD };
+        let item = if front == "item" { ITEM } else { "" };
+        let found = outcome(alloc, &format!(in alloc; "{head}{item}{text}")?)?;
         assert_eq!(rt; &*found, want, "at {row}");
     }
     Ok(())
 }
 
 #[test]
-fn a_line_that_is_not_utf8_is_told(rt: HostRuntime) -> Result<(), Fail> {
+fn lengths_and_counts_end_at_their_limits(rt: HostRuntime) -> Result<(), Fail> {
     let alloc = rt.alloc();
-    assert_eq!(rt; fault(alloc, b"\xff".as_slice())?, (601, 1));
-    assert_eq!(rt; fault(alloc, b"SQCORPUS 1\n\xff\n".as_slice())?, (601, 2));
-    assert_eq!(rt;
-        fault(alloc, b"SQCORPUS 1\ncaller\tAnn\xc3\t\x01\n".as_slice())?,
-        (601, 2)
-    );
-    assert_eq!(rt;
-        fault(alloc, b"SQCORPUS 1\nproperty\n\xff\n".as_slice())?,
-        (602, 2)
-    );
-    Ok(())
-}
-
-// The fault of a text of so many equal pieces between a front and a back.
-fn repeated(
-    alloc: Global,
-    front: &str,
-    piece: &str,
-    count: u32,
-    back: &str,
-) -> Result<(u16, u32), AllocError> {
-    let mut text = String::from_str(alloc, front)?;
-    for _ in 0..count {
-        text.push_str(piece)?;
+    for row in LIMITS.split('\n') {
+        let (want, rest) = row.split_once('=').unwrap_or((row, ""));
+        let (front, rest) = rest.split_once('=').unwrap_or((rest, ""));
+        let (piece, rest) = rest.split_once('=').unwrap_or((rest, ""));
+        let (count, back) = rest.split_once('=').unwrap_or((rest, ""));
+        // Where the count is no number, one beyond each limit.
+        let count = count.parse().unwrap_or(20_000);
+        let text = repeated(alloc, front, piece, count)?;
+        let found = outcome(alloc, &format!(in alloc; "{text}{back}")?)?;
+        assert_eq!(rt; &*found, want, "at {row}");
     }
-    text.push_str(back)?;
-    fault(alloc, text.as_bytes())
-}
-
-// The fault of a text of so many lines, each with its number.
-fn numbered(alloc: Global, line: &str, count: u32, back: &str) -> Result<(u16, u32), AllocError> {
-    let mut text = String::from_str(alloc, "SQCORPUS 1\n")?;
-    for number in 0..count {
-        text.push_str(&format!(in alloc; "{line}{number}{back}")?)?;
-    }
-    fault(alloc, text.as_bytes())
-}
-
-#[test]
-fn names_and_claims_end_at_their_limits(rt: HostRuntime) -> Result<(), Fail> {
-    let alloc = rt.alloc();
-    let name = "SQCORPUS 1\ncaller\t";
-    assert_eq!(rt; repeated(alloc, name, "x", 128, "\n")?, (0, 0));
-    assert_eq!(rt; repeated(alloc, name, "x", 129, "\n")?, (607, 2));
-    let claim = "SQCORPUS 1\ncaller\tAnn\t";
-    assert_eq!(rt; repeated(alloc, claim, "x", 128, "\n")?, (0, 0));
-    assert_eq!(rt; repeated(alloc, claim, "x", 129, "\n")?, (607, 2));
-    assert_eq!(rt;
-        repeated(alloc, "SQCORPUS 1\ncaller\tAnn", "\tx", 65, "\n")?,
-        (0, 0)
-    );
-    let allow = "SQCORPUS 1\nitem\t1\t0\tu\nallow";
-    assert_eq!(rt; repeated(alloc, allow, "\tx", 64, "\ndeny\n")?, (0, 0));
-    assert_eq!(rt; repeated(alloc, allow, "\tx", 65, "\ndeny\n")?, (608, 3));
-    assert_eq!(rt; repeated(alloc, allow, "\tx", 65, "\t\ndeny\n")?, (607, 3));
-    let deny = "SQCORPUS 1\nitem\t1\t0\tu\nallow\ndeny";
-    assert_eq!(rt; repeated(alloc, deny, "\tx", 65, "\n")?, (608, 4));
-    Ok(())
-}
-
-#[test]
-fn counts_end_at_their_limits(rt: HostRuntime) -> Result<(), Fail> {
-    let alloc = rt.alloc();
-    let values = "SQCORPUS 1\nproperty\tp\ttext\tm\nitem\t1\t0\tu\nallow\ndeny\n";
-    assert_eq!(rt; repeated(alloc, values, "value\tp\tx\n", 1000, "")?, (0, 0));
-    assert_eq!(rt;
-        repeated(alloc, values, "value\tp\tx\n", 1001, "")?,
-        (608, 1006)
-    );
-    assert_eq!(rt; numbered(alloc, "property\tp", 64, "\ttext\t-\n")?, (0, 0));
-    assert_eq!(rt;
-        numbered(alloc, "property\tp", 65, "\ttext\t-\n")?,
-        (608, 66)
-    );
-    assert_eq!(rt; numbered(alloc, "caller\tx", 10_000, "\n")?, (0, 0));
-    assert_eq!(rt; numbered(alloc, "caller\tx", 10_001, "\n")?, (608, 10_002));
     Ok(())
 }
