@@ -615,25 +615,25 @@ fn a_lowered_tree_holds_of_the_same_items_with_the_same_boosts(
     Ok(())
 }
 
-// A line for each row: the words, a text of the worked corpus and the one in its place, the status, and what is written. `;` ends a
+// A line for each row: the words, a text of the worked corpus and the one in its place, `~`, the status, and what is written. `;` ends a
 // line, and a comma stands between two words.
 const WORDS: &str = "\
-ask,Ann,kql,STRASSE|merger of the old bank and the new bank|Straße|0|total 1;item 1 score 10;\n\
-ask,Bob,kql,debt|item\t3\t20|item\t3\t21|0|total 2;item 3 score 21;item 2 score 20;\n\
-ask,Bob,kql,debt|deny;value\ttitle\tDebt|deny\tboard;value\ttitle\tDebt|0|total 1;item 3 score 20;\n\
-ask,Ann,kql,debt|SQCORPUS 1|SQCORPUS 2|3|corpus fault 602 line 1;\n\
-check|||0|ok 7 properties 2 callers 3 items;\n\
-check|size\t5|size\tfive|3|corpus fault 603 line 18;\n\
-check|value\ttitle\tAnnual|value\tcolour\tAnnual|3|corpus fault 604 line 14;\n\
-check|item\t2|item\t1|3|corpus fault 606 line 19;\n\
-lower,size>5|property\tsize|property\tSize_of\tinteger\t-;property\tsize|0|size:range(5,max,from=\"GT\",to=\"LE\");\n\
-lower|||2|\n\
-lower,debt,kql|||2|\n\
-|||2|\n\
-ask,Ann|||2|\n\
-ask,Ann,sql,debt|||2|\n\
-check,all|||2|\n\
---help|||2|";
+ask,Ann,kql,STRASSE|merger of the old bank and the new bank|Straße~0|total 1;item 1 score 10;\n\
+ask,Bob,kql,debt|item\t3\t20|item\t3\t21~0|total 2;item 3 score 21;item 2 score 20;\n\
+ask,Bob,kql,debt|deny;value\ttitle\tDebt|deny\tboard;value\ttitle\tDebt~0|total 1;item 3 score 20;\n\
+ask,Ann,kql,debt|SQCORPUS 1|SQCORPUS 2~3|corpus fault 602 line 1;\n\
+check||~0|ok 7 properties 2 callers 3 items;\n\
+check|size\t5|size\tfive~3|corpus fault 603 line 18;\n\
+check|value\ttitle\tAnnual|value\tcolour\tAnnual~3|corpus fault 604 line 14;\n\
+check|item\t2|item\t1~3|corpus fault 606 line 19;\n\
+lower,size>5|property\tsize|property\tSize_of\tinteger\t-;property\tsize~0|size:range(5,max,from=\"GT\",to=\"LE\");\n\
+lower||~2|\n\
+lower,debt,kql||~2|\n\
+||~2|\n\
+ask,Ann||~2|\n\
+ask,Ann,sql,debt||~2|\n\
+check,all||~2|\n\
+--help||~2|";
 
 /// The words between commas, none of the empty text.
 fn words_between<'a>(alloc: Global, text: &'a str) -> Result<Vec<&'a str>, AllocError> {
@@ -647,7 +647,7 @@ fn words_between<'a>(alloc: Global, text: &'a str) -> Result<Vec<&'a str>, Alloc
 }
 
 /// The status and what is written for these words over the worked corpus with one text in another's place.
-fn replied(alloc: Global, words: &str, old: &str, new: &str) -> Result<(u8, Vec<u8>), AllocError> {
+fn answered(alloc: Global, words: &str, old: &str, new: &str) -> Result<(u8, Vec<u8>), AllocError> {
     let words = words_between(alloc, words)?;
     let old = lines_of(alloc, old)?;
     let new = lines_of(alloc, new)?;
@@ -655,20 +655,25 @@ fn replied(alloc: Global, words: &str, old: &str, new: &str) -> Result<(u8, Vec<
     asked(alloc, corpus, words.as_slice())
 }
 
+/// The same for a row's case, as the row has it, with `|` between them.
+fn replied(alloc: Global, case: &str) -> Result<Vec<u8>, AllocError> {
+    let (words, texts) = case.split_once('|').unwrap_or((case, ""));
+    let (old, new) = texts.split_once('|').unwrap_or((texts, ""));
+    let (status, written) = answered(alloc, words, old, new)?;
+    let mut reply = format!(in alloc; "{status}|")?.into_bytes();
+    reply.extend_from_slice(written.as_slice())?;
+    Ok(reply)
+}
+
 /// Other words, and the worked corpus with one text in another's place.
 #[test]
 fn words_have_their_status_and_text(rt: HostRuntime) -> Result<(), Fail> {
     let alloc = rt.alloc();
     for row in WORDS.split('\n') {
-        let (words, rest) = row.split_once('|').unwrap_or((row, ""));
-        let (old, rest) = rest.split_once('|').unwrap_or((rest, ""));
-        let (new, rest) = rest.split_once('|').unwrap_or((rest, ""));
-        let (status, sent) = rest.split_once('|').unwrap_or((rest, ""));
-        let (answer, written) = replied(alloc, words, old, new)?;
-        assert_eq!(rt; answer, status.parse().unwrap_or(255), "at {row}");
-        assert_eq!(rt;
-            written.as_slice(),
-            lines_of(alloc, sent)?.as_bytes(),
+        let (case, sent) = row.split_once('~').unwrap_or((row, ""));
+        let reply = replied(alloc, case)?;
+        assert!(rt;
+            reply.as_slice() == lines_of(alloc, sent)?.as_bytes(),
             "at {row}"
         );
     }
