@@ -390,84 +390,67 @@ fn kql_texts_are_lowered_or_refused(rt: HostRuntime) -> Result<(), Fail> {
     Ok(())
 }
 
+// A line for each row: the words, a text of the worked corpus and the one in its place, `~`, the status, and what is written. `;` ends a
+// line, and a comma stands between two words.
+const WORDS: &str = "\
+ask,Ann,kql,STRASSE|merger of the old bank and the new bank|Straße~0|total 1;item 1 score 10;\n\
+ask,Bob,kql,debt|item\t3\t20|item\t3\t21~0|total 2;item 3 score 21;item 2 score 20;\n\
+ask,Bob,kql,debt|deny;value\ttitle\tDebt|deny\tboard;value\ttitle\tDebt~0|total 1;item 3 score 20;\n\
+ask,Ann,kql,debt|SQCORPUS 1|SQCORPUS 2~3|corpus fault 602 line 1;\n\
+check||~0|ok 7 properties 2 callers 3 items;\n\
+check|size\t5|size\tfive~3|corpus fault 603 line 18;\n\
+check|value\ttitle\tAnnual|value\tcolour\tAnnual~3|corpus fault 604 line 14;\n\
+check|item\t2|item\t1~3|corpus fault 606 line 19;\n\
+lower,size>5|property\tsize|property\tSize_of\tinteger\t-;property\tsize~0|size:range(5,max,from=\"GT\",to=\"LE\");\n\
+lower||~2|\n\
+lower,debt,kql||~2|\n\
+||~2|\n\
+ask,Ann||~2|\n\
+ask,Ann,sql,debt||~2|\n\
+check,all||~2|\n\
+--help||~2|";
+
+/// The words between commas, none of the empty text.
+fn words_between<'a>(alloc: Global, text: &'a str) -> Result<Vec<&'a str>, AllocError> {
+    let mut words = Vec::new(alloc);
+    if text != "" {
+        for word in text.split(',') {
+            words.push(word)?;
+        }
+    }
+    Ok(words)
+}
+
+/// The status and what is written for these words over the worked corpus with one text in another's place.
+fn answered(alloc: Global, words: &str, old: &str, new: &str) -> Result<(u8, Vec<u8>), AllocError> {
+    let words = words_between(alloc, words)?;
+    let old = lines_of(alloc, old)?;
+    let new = lines_of(alloc, new)?;
+    let corpus = source_of(alloc, &old, &new, false)?;
+    asked(alloc, corpus, words.as_slice())
+}
+
+/// The same for a row's case, as the row has it, with `|` between them.
+fn replied(alloc: Global, case: &str) -> Result<Vec<u8>, AllocError> {
+    let (words, texts) = case.split_once('|').unwrap_or((case, ""));
+    let (old, new) = texts.split_once('|').unwrap_or((texts, ""));
+    let (status, written) = answered(alloc, words, old, new)?;
+    let mut reply = format!(in alloc; "{status}|")?.into_bytes();
+    reply.extend_from_slice(written.as_slice())?;
+    Ok(reply)
+}
+
 /// Other words, and the worked corpus with one text in another's place.
 #[test]
 fn words_have_their_status_and_text(rt: HostRuntime) -> Result<(), Fail> {
     let alloc = rt.alloc();
-    let table: [(&[&str], (&str, &str), u8, &str); 16] = [
-        (
-            &["ask", "Ann", "kql", "STRASSE"],
-            ("merger of the old bank and the new bank", "Straße"),
-            0,
-            "total 1\nitem 1 score 10\n",
-        ),
-        (
-            &["ask", "Bob", "kql", "debt"],
-            ("item\t3\t20", "item\t3\t21"),
-            0,
-            "total 2\nitem 3 score 21\nitem 2 score 20\n",
-        ),
-        (
-            &["ask", "Bob", "kql", "debt"],
-            (
-                "deny\nvalue\ttitle\tDebt",
-                "deny\tboard\nvalue\ttitle\tDebt",
-            ),
-            0,
-            "total 1\nitem 3 score 20\n",
-        ),
-        (
-            &["ask", "Ann", "kql", "debt"],
-            ("SQCORPUS 1", "SQCORPUS 2"),
-            3,
-            "corpus fault 602 line 1\n",
-        ),
-        (
-            &["check"],
-            ("", ""),
-            0,
-            "ok 7 properties 2 callers 3 items\n",
-        ),
-        (
-            &["check"],
-            ("size\t5", "size\tfive"),
-            3,
-            "corpus fault 603 line 18\n",
-        ),
-        (
-            &["check"],
-            ("value\ttitle\tAnnual", "value\tcolour\tAnnual"),
-            3,
-            "corpus fault 604 line 14\n",
-        ),
-        (
-            &["check"],
-            ("item\t2", "item\t1"),
-            3,
-            "corpus fault 606 line 19\n",
-        ),
-        (
-            &["lower", "size>5"],
-            (
-                "property\tsize",
-                "property\tSize_of\tinteger\t-\nproperty\tsize",
-            ),
-            0,
-            "size:range(5,max,from=\"GT\",to=\"LE\")\n",
-        ),
-        (&["lower"], ("", ""), 2, ""),
-        (&["lower", "debt", "kql"], ("", ""), 2, ""),
-        (&[], ("", ""), 2, ""),
-        (&["ask", "Ann"], ("", ""), 2, ""),
-        (&["ask", "Ann", "sql", "debt"], ("", ""), 2, ""),
-        (&["check", "all"], ("", ""), 2, ""),
-        (&["--help"], ("", ""), 2, ""),
-    ];
-    for (words, (old, new), status, sent) in table {
-        let corpus = source_of(alloc, old, new, false)?;
-        let (answer, written) = asked(alloc, corpus, words)?;
-        assert_eq!(rt; answer, status, "at {words:?}");
-        assert_eq!(rt; written.as_slice(), sent.as_bytes(), "at {words:?}");
+    for row in WORDS.split('\n') {
+        let (case, sent) = row.split_once('~').unwrap_or((row, ""));
+        let reply = replied(alloc, case)?;
+        assert!(rt;
+            reply.as_slice() == lines_of(alloc, sent)?.as_bytes(),
+            "at {row}"
+        );
     }
     Ok(())
 }

@@ -19,6 +19,3 @@ pub use fault::CorpusFault;
 pub use laws::{values_are_kept, written_texts_read_back};
 pub use read::read_corpus;
 pub use write::write_corpus;
-
-#[cfg(test)]
-mod tests;

@@ -2,6 +2,8 @@
 #![tactic(auto)]
 
 #[cfg(test)]
+mod corpus;
+#[cfg(test)]
 mod fql_typing;
 #[cfg(test)]
 mod kql_reading;
