@@ -168,8 +168,8 @@ debt XRANK(cb=5) before XRANK(cb=7) notes\n\
 (* XRANK(cb=1000000) size:5..7) XRANK(cb=-1000000) write<>today\n\
 nothing XRANK(cb=5) debt";
 
-/// Whether both trees hold of the item in a row, or both don't, and give it the same boost.
-fn is_same_in(
+/// Whether both trees hold of the item in a row, or both don't.
+fn holds_alike(
     alloc: Global,
     corpus: &Corpus,
     tree: &KTree,
@@ -179,11 +179,25 @@ fn is_same_in(
     requires row { row < length corpus.now.items }
     requires short { list_all has_short_texts corpus.now.items ≡ true }
 {
-    Ok(
-        kql_holds_slow(alloc, corpus, tree, row)? == fql_holds_slow(alloc, corpus, lowered, row)?
-            && kql_boost_slow(alloc, corpus, tree, row)?
-                == fql_boost_slow(alloc, corpus, lowered, row)?,
-    )
+    let first = kql_holds_slow(alloc, corpus, tree, row)?;
+    let second = fql_holds_slow(alloc, corpus, lowered, row)?;
+    Ok(first == second)
+}
+
+/// Whether both trees give the item in a row the same boost.
+fn boosts_alike(
+    alloc: Global,
+    corpus: &Corpus,
+    tree: &KTree,
+    lowered: &FTree,
+    row: u32,
+) -> Result<bool, AllocError>
+    requires row { row < length corpus.now.items }
+    requires short { list_all has_short_texts corpus.now.items ≡ true }
+{
+    let first = kql_boost_slow(alloc, corpus, tree, row)?;
+    let second = fql_boost_slow(alloc, corpus, lowered, row)?;
+    Ok(first == second)
 }
 
 /// The same for each item.
@@ -199,7 +213,9 @@ fn is_same_in_all(
         return Ok(false);
     };
     for row in 0..count {
-        if !is_same_in(alloc, corpus, tree, lowered, row)? {
+        let hold = holds_alike(alloc, corpus, tree, lowered, row)?;
+        let boost = boosts_alike(alloc, corpus, tree, lowered, row)?;
+        if !hold || !boost {
             return Ok(false);
         }
     }
