@@ -1,44 +1,19 @@
 ghost use Rattle.std.specs.Prelude.{None};
 
+mod corpus;
+mod fql_typing;
+mod kql_reading;
+mod kql_typing;
+mod lowering;
+mod slow;
+
 use crate::adapters::{Reading, Writing};
 use crate::run::run;
+use crate::tests::corpus::WORKED;
 use sq_base::{Failed, MemSink, MemSource, Source};
 use std::alloc::{AllocError, Global};
 use std::fs::File;
 use std::test::Fail;
-
-const WORKED: &str = "SQCORPUS 1
-property\ttitle\ttext\ts
-property\tbody\ttext\ts
-property\tauthor\ttext\t-
-property\tfiletype\ttext\t-
-property\tsize\tinteger\tr
-property\twrite\tdatetime\t-
-property\tpublic\tyesno\t-
-caller\tAnn\tstaff
-caller\tBob\tstaff\tboard
-item\t1\t10\thttp://s/1
-allow\tstaff
-deny
-value\ttitle\tAnnual report
-value\tbody\tmerger of the old bank and the new bank
-value\tauthor\tAnn Smith
-value\tfiletype\tdocx
-value\tsize\t5
-item\t2\t20\thttp://s/2
-allow\tstaff
-deny
-value\ttitle\tDebt notes
-value\tbody\tacquisition of company debt
-value\tsize\t7
-value\twrite\t2024-02-29T12:00:00Z
-item\t3\t20\thttp://s/3
-allow\tboard
-deny
-value\ttitle\tBoard memo
-value\tbody\tdebt before acquisition
-value\tsize\t7
-";
 
 const MOMENT: i64 = 1_709_208_000;
 

@@ -3,7 +3,7 @@ ghost use Rattle.std.specs.List.{list_all};
 ghost use Rattle.sq_model.specs.KqlSound.{IsSound};
 ghost use Rattle.sq_model.specs.Valid.{has_short_texts};
 
-use crate::corpus::WORKED;
+use crate::tests::corpus::WORKED;
 use sq_base::Fault;
 use sq_corpus::read_corpus;
 use sq_kql::read_kql;
