@@ -10,7 +10,7 @@ use Rattle.sq_model.specs.declared.fql.FTree.{FTree}
 use Rattle.sq_model.specs.Kql as kql
 use Rattle.sq_model.specs.Fql as fql
 use Rattle.sq_model.specs.Valid.{is_value}
-use Rattle.sq_lex.specs.Outcome.{Outcome, ◌>>=◌}
+use Rattle.sq_base.specs.Outcome.{Outcome, ◌>>=◌}
 use Rattle.sq_kql.specs.Tree as kql_tree
 use Rattle.sq_fql.specs.Read as fql_tree
 use Rattle.sq_fql.specs.Canon.{canon}

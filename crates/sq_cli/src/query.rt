@@ -2,7 +2,7 @@
 ghost use Rattle.std.specs.Prelude.{◌≡◌, IfOk};
 ghost use Rattle.sq_schema.specs.Intervals.{clamped};
 ghost use Rattle.sq_model.specs.KqlSound.{IsSound};
-ghost use Rattle.sq_lex.specs.Outcome.{Gives};
+ghost use Rattle.sq_base.specs.Outcome.{Gives};
 ghost use Rattle.sq_cli.specs.declared.command.Language.TheVariants as language;
 ghost use Rattle.sq_cli.specs.Query as spec;
 

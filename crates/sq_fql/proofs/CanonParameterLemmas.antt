@@ -12,7 +12,7 @@ use Rattle.sq_lex.specs.declared.fql_lexeme.FKind.TheVariants as kind
 use Rattle.sq_lex.specs.declared.fql_lexeme.FLexeme.{FLexeme}
 use Rattle.sq_lex.specs.Bytes.{Text, is_in}
 use Rattle.sq_lex.specs.Fql.{lexeme}
-use Rattle.sq_lex.specs.Outcome.{◌>>=◌}
+use Rattle.sq_base.specs.Outcome.{◌>>=◌}
 use Rattle.sq_fql.specs.declared.codes.TheConstants.{MAX_BOOST, MAX_COUNT, MAX_NEAR}
 use Rattle.sq_fql.specs.declared.raw.Mode.{Mode}
 use Rattle.sq_fql.specs.declared.raw.Mode.TheVariants as mode

@@ -7,7 +7,7 @@ use Rattle.sq_lex.specs.declared.fql_lexeme.FKind.TheVariants as kind
 use Rattle.sq_lex.specs.declared.fql_lexeme.FLexeme.{FLexeme}
 use Rattle.sq_lex.specs.Bytes.{Text}
 use Rattle.sq_lex.specs.Fql.{lexeme}
-use Rattle.sq_lex.specs.Outcome.{Outcome, ◌>>=◌}
+use Rattle.sq_base.specs.Outcome.{Outcome, ◌>>=◌}
 use Rattle.sq_fql.specs.declared.raw.FRaw.{FRaw, All, Literal, Scope', Row_of-FRaw, end_of-FRaw, more_of-FRaw}
 use Rattle.sq_fql.specs.declared.raw.FRaw.TheVariants as tree
 use Rattle.sq_fql.specs.declared.raw.FRaw.{items-the_row-FRaw, items_hidden-the_row-FRaw-1}

@@ -7,7 +7,7 @@ use Rattle.std.specs.Option.{option_map}
 use Rattle.std.specs.Char.{is_ascii_digit}
 use Rattle.std.specs.Str.{str_eq_ignore_ascii_case}
 use Rattle.sq_lex.specs.Bytes.{Text}
-use Rattle.sq_lex.specs.Outcome.{Outcome, or_refused}
+use Rattle.sq_base.specs.Outcome.{Outcome, or_refused}
 use Rattle.sq_fql.specs.declared.codes.TheConstants.{BAD_PARAMETER, MAX_BOOST, MAX_COUNT, MAX_NEAR, NEAR}
 use Rattle.sq_fql.specs.declared.raw.Mode.{Mode}
 use Rattle.sq_fql.specs.declared.raw.Mode.TheVariants as mode

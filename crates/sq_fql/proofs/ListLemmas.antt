@@ -3,7 +3,7 @@ use Rattle.std.proofs.Common.{◌≡◌, ◌≢◌, ℕ, zero, suc, ◌-◌, ◌
 use Rattle.sq_base.specs.declared.faults.QueryFault.{QueryFault}
 use Rattle.sq_base.specs.declared.faults.Fault.{Fault}
 use Rattle.sq_base.specs.declared.faults.Fault.TheVariants as faults
-use Rattle.sq_lex.specs.Outcome.{Fails}
+use Rattle.sq_base.specs.Outcome.{Fails}
 use Rattle.sq_lex.specs.declared.fql_lexeme.FLexeme.{FLexeme}
 use Rattle.sq_lex.specs.Bytes.{Text}
 use Rattle.sq_fql.specs.declared.operator.Operator.{Operator}

@@ -15,7 +15,7 @@ use Rattle.sq_lex.specs.Bytes.{Text, is_in}
 use Rattle.sq_lex.specs.Fql.{word_class}
 use Rattle.sq_lex.specs.FqlShape.{IsLexeme, IsSpelled}
 use Rattle.sq_lex.specs.FqlWhole.{HasInside, IsWhole}
-use Rattle.sq_lex.specs.Outcome.{refused}
+use Rattle.sq_base.specs.Outcome.{refused}
 use Rattle.sq_fql.specs.declared.codes.TheConstants.{BAD_STAR}
 use Rattle.sq_fql.specs.declared.raw.FRaw.{FRaw}
 use Rattle.sq_fql.specs.declared.raw.FRaw.TheVariants as tree

@@ -3,7 +3,7 @@ use Rattle.std.proofs.Common.{◌≡◌, [], ◌∷◌, Some, None, Ok, refl}
 use Rattle.std.specs.Prelude.{codes, pos, true, false}
 use Rattle.sq_lex.specs.Bytes.{past}
 use Rattle.sq_lex.specs.Fql.{string_at, lexeme_at, fql_lexemes_from, fql_lexemes_of}
-use Rattle.sq_lex.specs.Outcome.{refused}
+use Rattle.sq_base.specs.Outcome.{refused}
 use Rattle.sq_fql.specs.declared.codes.TheConstants.{EMPTY_QUERY, UNKNOWN_OPERATOR, MISSING_ARGUMENT, EXTRA_ARGUMENT, BAD_PARAMETER, UNEXPECTED, UNCLOSED_PAREN, OTHER_BOOST, BAD_STAR}
 use Rattle.sq_fql.specs.declared.raw.FRaw.TheVariants as tree
 use Rattle.sq_fql.specs.declared.raw.Mode.TheVariants as mode

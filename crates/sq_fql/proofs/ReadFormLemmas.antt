@@ -10,7 +10,7 @@ use Rattle.sq_lex.specs.declared.fql_lexeme.FLexeme.{FLexeme}
 use Rattle.sq_lex.specs.Bytes.{Text}
 use Rattle.sq_lex.specs.FqlShape.{AreFrom}
 use Rattle.sq_lex.specs.FqlWhole.{AreWhole}
-use Rattle.sq_lex.specs.Outcome.{Outcome, refused, ◌>>=◌}
+use Rattle.sq_base.specs.Outcome.{Outcome, refused, ◌>>=◌}
 use Rattle.sq_fql.specs.declared.codes.TheConstants.{MAX_LEVELS, MISSING_ARGUMENT}
 use Rattle.sq_fql.specs.declared.raw.FRaw.{FRaw}
 use Rattle.sq_fql.specs.declared.raw.FRaw.TheVariants as tree

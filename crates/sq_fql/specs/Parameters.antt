@@ -2,7 +2,7 @@
 use Rattle.std.specs.Prelude.{ℕ, ℤ, Bool, true, false, List, [], ◌∷◌, Option, Some, None, Ok, codes}
 use Rattle.std.specs.Option.{option_map}
 use Rattle.sq_lex.specs.Bytes.{Text}
-use Rattle.sq_lex.specs.Outcome.{Outcome, refused, or_refused}
+use Rattle.sq_base.specs.Outcome.{Outcome, refused, or_refused}
 use Rattle.sq_fql.specs.declared.codes.TheConstants.{BAD_PARAMETER, MAX_BOOST, MAX_COUNT, MAX_NEAR, MISSING_ARGUMENT, NEAR}
 use Rattle.sq_fql.specs.declared.raw.Mode.{Mode}
 use Rattle.sq_fql.specs.declared.raw.Mode.TheVariants as mode

@@ -8,7 +8,7 @@ use Rattle.sq_lex.specs.declared.fql_lexeme.FKind.TheVariants as kind
 use Rattle.sq_lex.specs.declared.fql_lexeme.FLexeme.{FLexeme}
 use Rattle.sq_lex.specs.Bytes.{Text}
 use Rattle.sq_lex.specs.Fql.{fql_lexemes_of}
-use Rattle.sq_lex.specs.Outcome.{Outcome, refused, ◌>>=◌}
+use Rattle.sq_base.specs.Outcome.{Outcome, refused, ◌>>=◌}
 use Rattle.sq_fql.specs.declared.codes.TheConstants.{EMPTY_QUERY, UNKNOWN_OPERATOR, MISSING_ARGUMENT, EXTRA_ARGUMENT, UNEXPECTED, UNCLOSED_PAREN, TOO_DEEP, OTHER_BOOST, BAD_STAR, MAX_LEVELS}
 use Rattle.sq_fql.specs.declared.raw.FRaw.{FRaw}
 use Rattle.sq_fql.specs.declared.raw.FRaw.TheVariants as tree

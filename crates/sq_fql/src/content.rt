@@ -3,7 +3,7 @@
 ghost use Rattle.std.specs.Prelude.{◌≡◌, ◌≤◌, ◌<◌, ◌^◌, ◌++◌, false, length, chars, codes, string_bytes, IfOk, Ok, OnOk};
 ghost use Rattle.std.specs.Str.{bytes_eq, encode_utf8_all};
 ghost use Rattle.sq_lex.specs.FqlWhole.{IsWhole};
-ghost use Rattle.sq_lex.specs.Outcome.{Gives};
+ghost use Rattle.sq_base.specs.Outcome.{Gives};
 ghost use Rattle.sq_fql.specs.Read as spec;
 
 use crate::codes::BAD_STAR;

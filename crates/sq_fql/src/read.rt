@@ -3,7 +3,7 @@
 ghost use Rattle.std.specs.Prelude.{List, ℕ, ◌≡◌, ◌≢◌, ◌≤◌, ◌<◌, ◌-◌, ◌^◌, length, slice_index, suc, IfOk, Ok};
 ghost use Rattle.std.specs.Char.{is_ascii_alphabetic};
 ghost use Rattle.sq_lex.specs.FqlWhole.{AreWhole, IsWhole};
-ghost use Rattle.sq_lex.specs.Outcome.{Gives};
+ghost use Rattle.sq_base.specs.Outcome.{Gives};
 ghost use Rattle.sq_fql.specs.Operators as table;
 ghost use Rattle.sq_fql.specs.Parameters.{nothing_given};
 ghost use Rattle.sq_fql.specs.Read as spec;

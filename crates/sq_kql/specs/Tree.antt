@@ -7,7 +7,7 @@ use Rattle.sq_lex.specs.declared.lexeme.KKind.{KKind}
 use Rattle.sq_lex.specs.declared.lexeme.KKind.TheVariants as kind
 use Rattle.sq_lex.specs.declared.lexeme.KLexeme.{KLexeme}
 use Rattle.sq_lex.specs.Bytes.{Text}
-use Rattle.sq_lex.specs.Outcome.{Outcome, ◌>>=◌, ◌>>◌}
+use Rattle.sq_base.specs.Outcome.{Outcome, ◌>>=◌, ◌>>◌}
 use Rattle.sq_lex.specs.Kql.{lexemes_of}
 use Rattle.sq_kql.specs.declared.raw.Piece.{Piece}
 use Rattle.sq_kql.specs.declared.raw.RawSign.{RawSign}

@@ -3,7 +3,7 @@
 ghost use Rattle.std.specs.Prelude.{◌≡◌, ◌≤◌, length, fold, slice_range, IfOk, IfSome};
 ghost use Rattle.std.specs.Option.{option_map};
 ghost use Rattle.std.specs.List.{AllByRecursion};
-ghost use Rattle.sq_lex.specs.Outcome.{Gives};
+ghost use Rattle.sq_base.specs.Outcome.{Gives};
 ghost use Rattle.sq_lex.specs.Pieces.{IsPiece};
 ghost use Rattle.sq_lex.specs.Whole.{HasPieces, IsWhole, AreWhole};
 ghost use Rattle.sq_kql.specs.Law.{IsTreeOf};

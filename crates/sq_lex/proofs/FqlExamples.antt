@@ -4,7 +4,7 @@ use Rattle.std.specs.Prelude.{codes}
 use Rattle.sq_lex.specs.declared.fql_codes.TheConstants.{UNCLOSED_STRING}
 use Rattle.sq_lex.specs.declared.fql_lexeme.FKind.TheVariants as kind
 use Rattle.sq_lex.specs.Bytes.{past}
-use Rattle.sq_lex.specs.Outcome.{refused}
+use Rattle.sq_base.specs.Outcome.{refused}
 use Rattle.sq_lex.specs.Fql.{lexeme, string_at, lexeme_at, fql_lexemes_from, fql_lexemes_of}
 
 operator : fql_lexemes_of (codes "near(a, b,N=2)")

@@ -10,7 +10,7 @@ use Rattle.sq_lex.specs.declared.class.Class.TheVariants as class
 use Rattle.sq_lex.specs.declared.fql_lexeme.FLexeme.{FLexeme}
 use Rattle.sq_lex.specs.Bytes.{Text, is_blank, past}
 use Rattle.sq_lex.specs.Fql.{lexeme_at, fql_lexemes_from, fql_lexemes_of}
-use Rattle.sq_lex.specs.Outcome.{Outcome, ◌>>=◌, refused}
+use Rattle.sq_base.specs.Outcome.{Outcome, ◌>>=◌, refused}
 use Rattle.std.specs.Prelude.{slice_index}
 
 -- the lexemes found, and then those of the outcome

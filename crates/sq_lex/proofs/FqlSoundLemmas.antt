@@ -11,7 +11,7 @@ use Rattle.sq_lex.specs.declared.fql_lexeme.FKind.{FKind}
 use Rattle.sq_lex.specs.declared.fql_lexeme.FKind.TheVariants as kind
 use Rattle.sq_lex.specs.declared.fql_lexeme.FLexeme.{FLexeme}
 use Rattle.sq_lex.specs.Bytes.{Text, is_blank, is_in, past}
-use Rattle.sq_lex.specs.Outcome.{Outcome, ◌>>=◌}
+use Rattle.sq_base.specs.Outcome.{Outcome, ◌>>=◌}
 use Rattle.sq_lex.specs.Fql.{lexeme, mark, word_class, closing, string_to, string_at, mark_or_word, lexeme_at, fql_lexemes_from, fql_lexemes_of}
 use Rattle.sq_lex.specs.FqlShape.{AllIn, IsSpelled, IsLexeme, AreFrom}
 

@@ -13,7 +13,7 @@ use Rattle.sq_lex.specs.declared.lexeme.Cut.{Cut}
 use Rattle.sq_lex.specs.declared.xrank.Boost.TheVariants as boost
 use Rattle.sq_lex.specs.declared.xrank.Parameter.{Parameter}
 use Rattle.sq_lex.specs.Bytes.{Text, is_in, past, digits_value}
-use Rattle.sq_lex.specs.Outcome.{Outcome, refused, or_refused}
+use Rattle.sq_base.specs.Outcome.{Outcome, refused, or_refused}
 use Rattle.sq_lex.specs.Kql.{Item, cut, past_cut, cut_at, quoted, number, signed_number, separator, listed, boost_named, max_boost, parameter, has_boost, next_parameter, parameters, signed_of, parameter_of, is_other, no_other, is_good_n, same_boost, constant_boost, word_value, item, next_item, items}
 use Rattle.sq_lex.specs.Places.{Fills}
 use Rattle.sq_lex.proofs.PieceLemmas.{pieces_push}

@@ -1,6 +1,6 @@
 -- What holds of an outcome, step by step.
 use Rattle.std.proofs.Common.{◌≡◌, ℕ, Bool, true, false, if◌then◌else◌, Option, Some, None, Ok, Err, IfOk, refl, subst}
-use Rattle.sq_lex.specs.Outcome.{Outcome, ◌>>=◌, or_refused}
+use Rattle.sq_base.specs.Outcome.{Outcome, ◌>>=◌, or_refused}
 
 pub if_bind : {A B : Type 0} (o : Outcome A) (f : A → Outcome B) (P : B → Type 0) → ((a : A) → o ≡ Ok a → IfOk (f a) P) → IfOk (o >>= f) P
 if_bind (Ok a) f P h = h a refl

@@ -17,7 +17,7 @@ use Rattle.sq_lex.specs.declared.restriction.Bounds.{Bounds}
 use Rattle.sq_lex.specs.declared.word.Word.{Word}
 use Rattle.sq_lex.specs.declared.word.Word.TheVariants as word
 use Rattle.sq_lex.specs.Bytes.{Text, past, is_blank, is_in}
-use Rattle.sq_lex.specs.Outcome.{refused, or_refused}
+use Rattle.sq_base.specs.Outcome.{refused, or_refused}
 use Rattle.sq_lex.specs.Kql.{Taken, lexeme, one, blank, cut, past_cut, judged, free, quoted, phrase, ends_idle, sign_lexemes, signs, number, near_digits, near_list, near_kind, near, constant_boost, parameters, xrank, relation_at, head_at, head, value, dots_from, word_value, range, word_bounds, phrase_bounds, one_bound, is_has, all_bounds, judged_upper, past_upper, bounds, restriction, items, has_bad_item, free_items, word_list, words, word_of, plain, word_by, whole_word, taken, lexemes_from, lexemes_of}
 use Rattle.sq_lex.specs.Places.{Fills, UpperFills, IsFilled, StandBetween, AreInPlace}
 use Rattle.sq_lex.proofs.SoundLemmas.{each_append}

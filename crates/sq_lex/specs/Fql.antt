@@ -9,7 +9,7 @@ use Rattle.sq_lex.specs.declared.fql_lexeme.FKind.{FKind}
 use Rattle.sq_lex.specs.declared.fql_lexeme.FKind.TheVariants as kind
 use Rattle.sq_lex.specs.declared.fql_lexeme.FLexeme.{FLexeme}
 use Rattle.sq_lex.specs.Bytes.{Text, past}
-use Rattle.sq_lex.specs.Outcome.{Outcome, refused, ◌>>=◌}
+use Rattle.sq_base.specs.Outcome.{Outcome, refused, ◌>>=◌}
 
 abbrev pub lexeme : FKind → ℕ → ℕ → FLexeme
 lexeme kind from to = record { kind = kind; from = from; to = to }

@@ -24,7 +24,7 @@ use Rattle.sq_lex.specs.declared.restriction.Head.{Head}
 use Rattle.sq_lex.specs.declared.restriction.Bounds.{Bounds}
 use denote.Enum.Bare.{sameb}
 use Rattle.sq_lex.specs.Bytes.{Text, is_blank, past, digits_value}
-use Rattle.sq_lex.specs.Outcome.{Outcome, refused, ◌>>=◌, ◌>>◌, or_refused}
+use Rattle.sq_base.specs.Outcome.{Outcome, refused, ◌>>=◌, ◌>>◌, or_refused}
 
 -- ---- what a rule takes
 

@@ -5,7 +5,7 @@ ghost use Rattle.std.specs.Str.{IsCharBoundary};
 ghost use Rattle.sq_lex.specs.Bytes.{is_blank, is_in};
 ghost use Rattle.sq_lex.specs.Fql as spec;
 ghost use Rattle.sq_lex.specs.FqlWhole.{AreWhole, HasInside, IsWhole};
-ghost use Rattle.sq_lex.specs.Outcome.{Gives};
+ghost use Rattle.sq_base.specs.Outcome.{Gives};
 
 use crate::class::{Class, byte_at, past};
 use crate::codes::MAX_TEXT;

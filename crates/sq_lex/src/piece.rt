@@ -3,7 +3,7 @@
 ghost use Rattle.std.specs.Prelude.{List, ℕ, ◌≡◌, ◌≤◌, ◌<◌, ◌+◌, ◌^◌, length, slice_index, IfOk, Ok};
 ghost use Rattle.std.specs.Str.{IsCharBoundary};
 ghost use Rattle.sq_lex.specs.Kql as spec;
-ghost use Rattle.sq_lex.specs.Outcome.{Gives};
+ghost use Rattle.sq_base.specs.Outcome.{Gives};
 ghost use Rattle.sq_lex.specs.Pieces.{IsPiece, IsPieceAfter, IsPlaceAfter, Takes};
 ghost use Rattle.sq_lex.specs.Whole.{AreWhole, HasPieces};
 

@@ -6,7 +6,7 @@ use Rattle.sq_schema.specs.declared.property.Property.{Property}
 use Rattle.sq_model.specs.Lists.{is_empty}
 use Rattle.sq_model.specs.declared.fql.FTree.{FTree}
 use Rattle.sq_model.specs.declared.fql.FTree.TheVariants as f
-use Rattle.sq_lex.specs.Outcome.{Outcome}
+use Rattle.sq_base.specs.Outcome.{Outcome}
 use Rattle.sq_fql.specs.declared.raw.FRaw.{FRaw}
 use Rattle.sq_fql.specs.declared.raw.Op.{Op}
 use Rattle.sq_fql.specs.declared.raw.Op.TheVariants as op

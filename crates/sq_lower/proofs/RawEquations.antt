@@ -3,7 +3,7 @@ use Rattle.std.proofs.Common.{◌≡◌, ℕ, true, false, List, ◌∷◌, map,
 use Rattle.std.specs.Prelude.{Ok}
 use Rattle.sq_schema.specs.declared.property.Property.{Property}
 use Rattle.sq_model.specs.declared.fql.Look.{Look}
-use Rattle.sq_lex.specs.Outcome.{◌>>=◌}
+use Rattle.sq_base.specs.Outcome.{◌>>=◌}
 use Rattle.sq_fql.specs.declared.raw.Op.{Op}
 use Rattle.sq_fql.specs.declared.raw.FRaw.{FRaw, Scope, Apply, Row_of-FRaw, end_of-FRaw, more_of-FRaw, items-the_row-FRaw, items_hidden-the_row-FRaw-1}
 use Rattle.sq_fql.specs.declared.raw.FRaw.TheBlock.{shape-the_row-FRaw-0, hidden-the_row-FRaw-0, hidden-the_row-FRaw-1}

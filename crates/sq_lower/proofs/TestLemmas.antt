@@ -34,7 +34,7 @@ use Rattle.sq_model.specs.declared.fql.SpanTree.TheBlock.{hidden-the_row-SpanTre
 use Rattle.sq_model.specs.declared.fql.SpanTree.TheVariants as s
 use Rattle.sq_model.specs.declared.fql.FTree.{FTree}
 use Rattle.sq_model.specs.declared.fql.FTree.TheVariants as f
-use Rattle.sq_lex.specs.Outcome.{Outcome, refused, or_refused}
+use Rattle.sq_base.specs.Outcome.{Outcome, refused, or_refused}
 use Rattle.sq_fql.specs.declared.codes.TheConstants.{NEAR}
 use Rattle.sq_fql.specs.declared.raw.FPiece.{FPiece}
 use Rattle.sq_fql.specs.declared.raw.FRaw.{FRaw}

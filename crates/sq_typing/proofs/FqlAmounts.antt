@@ -4,7 +4,7 @@ use Rattle.std.proofs.Common.{ℕ, ◌+◌, ◌≤◌, List, [], ◌∷◌, Opti
 use Rattle.std.specs.Prelude.{Ok, Err, IfOk, IfSome, ℤ}
 use Rattle.sq_model.specs.declared.fql.FTree.{FTree}
 use Rattle.sq_model.specs.declared.fql.FTree.TheVariants as tree
-use Rattle.sq_lex.specs.Outcome.{Outcome}
+use Rattle.sq_base.specs.Outcome.{Outcome}
 use Rattle.sq_fql.specs.declared.raw.Op.{Op}
 use Rattle.sq_fql.specs.declared.raw.Op.TheVariants as op
 use Rattle.sq_typing.specs.Fql.{made, some_trees, only_tree, first_and_others, combined, combined_all}

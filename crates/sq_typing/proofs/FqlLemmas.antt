@@ -9,7 +9,7 @@ use Rattle.std.proofs.lemmas.List.Elements.{All-from_recursion}
 use Rattle.sq_tokens.specs.Token.{Token, text_tokens}
 use Rattle.sq_tokens.specs.Pattern.{Phrase, text_phrase, without_good_star, first_bad_star}
 use Rattle.sq_model.specs.Lists.{is_empty}
-use Rattle.sq_lex.specs.Outcome.{Outcome, refused, ◌>>=◌}
+use Rattle.sq_base.specs.Outcome.{Outcome, refused, ◌>>=◌}
 use Rattle.sq_fql.specs.declared.raw.FPiece.{FPiece}
 use Rattle.sq_fql.specs.declared.raw.FRaw.{FRaw, All, Literal, Scope', Apply'}
 use Rattle.sq_typing.specs.declared.codes.TheConstants.{NO_TOKEN, WRONG_OPERATOR}

@@ -19,7 +19,7 @@ use Rattle.sq_model.specs.declared.fql.SpanTree.TheVariants as spans
 use Rattle.sq_model.specs.declared.fql.FTree.{FTree, Row_of-FTree, end_of-FTree, more_of-FTree, items-the_row-FTree, items_hidden-the_row-FTree-0}
 use Rattle.sq_model.specs.declared.fql.FTree.TheBlock.{shape-the_row-FTree-1, hidden-the_row-FTree-0, hidden-the_row-FTree-1}
 use Rattle.sq_model.specs.declared.fql.FTree.TheVariants as tree
-use Rattle.sq_lex.specs.Outcome.{Outcome, refused}
+use Rattle.sq_base.specs.Outcome.{Outcome, refused}
 use Rattle.sq_fql.specs.declared.raw.FPiece.{FPiece}
 use Rattle.sq_fql.specs.declared.raw.Mode.{Mode}
 use Rattle.sq_fql.specs.declared.raw.Mode.TheVariants as mode

@@ -10,7 +10,7 @@ use Rattle.sq_schema.specs.Values.{number_of, is_numeral, behind_minus}
 use Rattle.sq_tokens.specs.Token.{text_tokens}
 use Rattle.sq_tokens.specs.Pattern.{Phrase, without_good_star, first_bad_star}
 use Rattle.sq_model.specs.declared.fql.FTree.TheVariants as tree
-use Rattle.sq_lex.specs.Outcome.{refused}
+use Rattle.sq_base.specs.Outcome.{refused}
 use Rattle.sq_fql.specs.declared.raw.FPiece.{FPiece}
 use Rattle.sq_fql.specs.declared.raw.Op.TheVariants as op
 use Rattle.sq_fql.specs.declared.raw.FRaw.{FRaw}

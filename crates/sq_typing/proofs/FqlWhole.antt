@@ -5,7 +5,7 @@ use Rattle.sq_schema.specs.declared.property.Property.{Property}
 use Rattle.sq_model.specs.FqlSound.{PartsSound, tokens_in, xranks_in, IsSound}
 use Rattle.sq_model.specs.declared.fql.Look.TheVariants.{Searchable}
 use Rattle.sq_model.specs.declared.fql.FTree.{FTree}
-use Rattle.sq_lex.specs.Outcome.{Outcome}
+use Rattle.sq_base.specs.Outcome.{Outcome}
 use Rattle.sq_fql.specs.declared.raw.FRaw.{FRaw}
 use Rattle.sq_fql.specs.WellFormed.{IsWellFormed, bytes, xranks}
 use Rattle.sq_typing.specs.declared.fql_place.Place.TheVariants as place

@@ -20,7 +20,7 @@ use Rattle.sq_model.specs.declared.kql.KTree.TheVariants as tree
 use Rattle.sq_model.specs.declared.kql.KTree.TheBlock.{shape-the_row-KTree-0, hidden-the_row-KTree-0, shape-the_row-KTree-2, hidden-the_row-KTree-2}
 use Rattle.sq_lex.specs.declared.lexeme.Relation.{Relation}
 use Rattle.sq_lex.specs.declared.lexeme.Relation.TheVariants as spelled
-use Rattle.sq_lex.specs.Outcome.{Outcome, refused}
+use Rattle.sq_base.specs.Outcome.{Outcome, refused}
 use Rattle.sq_kql.specs.declared.raw.Piece.{Piece}
 use Rattle.sq_kql.specs.declared.raw.RawSign.TheVariants as sign
 use Rattle.sq_kql.specs.declared.raw.KRaw.{KRaw}

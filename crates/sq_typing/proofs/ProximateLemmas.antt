@@ -8,7 +8,7 @@ use Rattle.sq_model.specs.Lists.{is_empty}
 use Rattle.sq_model.specs.KqlSound.{LeafSound, LeavesSound}
 use Rattle.sq_model.specs.declared.kql.KTree.{KTree}
 use Rattle.sq_model.specs.declared.kql.KTree.TheVariants as tree
-use Rattle.sq_lex.specs.Outcome.{Outcome, refused, ◌>>◌}
+use Rattle.sq_base.specs.Outcome.{Outcome, refused, ◌>>◌}
 use Rattle.sq_kql.specs.declared.raw.Piece.{Piece}
 use Rattle.sq_kql.specs.declared.raw.KRaw.{KRaw, Free, All, Words, Group', Restrict, Near', Run', And', Or', Xrank', Row_of-KRaw, end_of-KRaw, more_of-KRaw}
 use Rattle.sq_kql.specs.WellFormed.{IsPattern, HasForm, HaveForm, AreSome}

@@ -4,7 +4,7 @@ use Rattle.std.specs.Prelude.{Ok, Err, IfOk}
 use Rattle.std.proofs.lemmas.Bool.Decides.{nat_tests}
 use Rattle.std.proofs.lemmas.List.{append-nil}
 use Rattle.sq_base.specs.declared.faults.QueryFault.{QueryFault}
-use Rattle.sq_lex.specs.Outcome.{Outcome, ◌>>=◌}
+use Rattle.sq_base.specs.Outcome.{Outcome, ◌>>=◌}
 use Rattle.sq_typing.specs.Together.{goes_first, first_fault, mapped, together, all_of}
 
 -- one of two, by a test

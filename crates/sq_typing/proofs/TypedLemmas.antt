@@ -24,7 +24,7 @@ use Rattle.sq_model.specs.declared.kql.KTree.TheBlock.{shape-the_row-KTree-0, hi
 use Rattle.sq_lex.specs.declared.lexeme.Relation.{Relation as Spelled}
 use Rattle.sq_lex.specs.declared.lexeme.Relation.TheVariants as spelled
 use Rattle.sq_lex.specs.Shape.{is_range}
-use Rattle.sq_lex.specs.Outcome.{Outcome, refused, or_refused, ◌>>=◌}
+use Rattle.sq_base.specs.Outcome.{Outcome, refused, or_refused, ◌>>=◌}
 use Rattle.sq_kql.specs.declared.raw.Piece.{Piece}
 use Rattle.sq_kql.specs.declared.raw.KRaw.{KRaw, Free, All, Words, Group', Restrict, Near', Run', And', Or', Xrank', Row_of-KRaw, end_of-KRaw, more_of-KRaw, Row_of-KRawOperand, end_of-KRawOperand, more_of-KRawOperand}
 use Rattle.sq_kql.specs.WellFormed.{IsStarless, HasForm, HaveForm, OperandsHaveForm, AreSome, AreSomeOperands, IsWellFormed, piece_bytes, upper_bytes, bytes, bytes_each, operand_bytes, nodes, nodes_each, operand_nodes}

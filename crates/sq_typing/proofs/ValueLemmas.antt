@@ -14,7 +14,7 @@ use Rattle.sq_schema.specs.Values.{number_of, signed_64, is_numeral, behind_minu
 use Rattle.std.specs.Str.Parse.{starts_with_minus, digits_value}
 use Rattle.sq_model.specs.Kinds.{is_integer_value, is_moment_value, is_same, is_boost}
 use Rattle.sq_model.specs.Valid.{is_from_to}
-use Rattle.sq_lex.specs.Outcome.{or_refused}
+use Rattle.sq_base.specs.Outcome.{or_refused}
 use Rattle.sq_kql.specs.declared.raw.Piece.{Piece}
 use Rattle.sq_typing.specs.KqlValues.{number_at, number_value, moment_value, yes_no_number, yes_no_value, from_to, bounds}
 use Rattle.sq_typing.proofs.TogetherLemmas.{if_together, if_weaker}

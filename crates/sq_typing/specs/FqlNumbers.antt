@@ -10,7 +10,7 @@ use Rattle.sq_schema.specs.Intervals.{single}
 use Rattle.sq_schema.specs.Values.{number_of, yes_no_of}
 use Rattle.sq_model.specs.declared.fql.FTree.{FTree}
 use Rattle.sq_model.specs.declared.fql.FTree.TheVariants as tree
-use Rattle.sq_lex.specs.Outcome.{Outcome, refused, or_refused}
+use Rattle.sq_base.specs.Outcome.{Outcome, refused, or_refused}
 use Rattle.sq_fql.specs.declared.raw.FPiece.{FPiece}
 use Rattle.sq_fql.specs.declared.raw.Op.{Op}
 use Rattle.sq_fql.specs.declared.raw.Op.TheVariants as op

@@ -8,7 +8,7 @@ use Rattle.sq_schema.specs.Properties.{has_name}
 use Rattle.sq_model.specs.Kinds.{kind_of}
 use Rattle.sq_model.specs.declared.fql.Look.{Look}
 use Rattle.sq_model.specs.declared.fql.Look.TheVariants.{Searchable, One}
-use Rattle.sq_lex.specs.Outcome.{Outcome, refused, or_refused, ◌>>=◌}
+use Rattle.sq_base.specs.Outcome.{Outcome, refused, or_refused, ◌>>=◌}
 use Rattle.sq_typing.specs.declared.codes.TheConstants.{UNKNOWN_PROPERTY}
 use Rattle.sq_typing.specs.declared.fql_codes.TheConstants.{NESTED_SCOPE}
 use Rattle.sq_typing.specs.declared.fql_place.Measure.TheVariants as measure

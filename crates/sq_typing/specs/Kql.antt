@@ -8,7 +8,7 @@ use Rattle.sq_model.specs.declared.kql.Sign.TheVariants as sign
 use Rattle.sq_model.specs.declared.kql.KOperand.{KOperand}
 use Rattle.sq_model.specs.declared.kql.KTree.{KTree}
 use Rattle.sq_model.specs.declared.kql.KTree.TheVariants as tree
-use Rattle.sq_lex.specs.Outcome.{Outcome, refused, ◌>>=◌}
+use Rattle.sq_base.specs.Outcome.{Outcome, refused, ◌>>=◌}
 use Rattle.sq_kql.specs.declared.raw.Piece.{Piece}
 use Rattle.sq_kql.specs.declared.raw.RawSign.{RawSign}
 use Rattle.sq_kql.specs.declared.raw.RawSign.TheVariants as raw

@@ -23,7 +23,7 @@ use Rattle.sq_model.specs.declared.kql.KTree.{KTree}
 use Rattle.sq_model.specs.declared.kql.KTree.TheVariants as tree
 use Rattle.sq_lex.specs.declared.lexeme.Relation.{Relation as Spelled}
 use Rattle.sq_lex.specs.declared.lexeme.Relation.TheVariants as spelled
-use Rattle.sq_lex.specs.Outcome.{Outcome, refused, or_refused, ◌>>=◌, ◌>>◌}
+use Rattle.sq_base.specs.Outcome.{Outcome, refused, or_refused, ◌>>=◌, ◌>>◌}
 use Rattle.sq_kql.specs.declared.raw.Piece.{Piece}
 use Rattle.sq_typing.specs.declared.codes.TheConstants.{UNKNOWN_PROPERTY, WRONG_OPERATOR, BAD_NUMBER, NUMBER_OUT_OF_RANGE, BAD_DATE, BAD_YES_NO, NO_TOKEN, NOT_IN_PROXIMITY}
 use Rattle.sq_typing.specs.Together.{mapped, together}

@@ -1,7 +1,7 @@
 -- Outcomes of several parts together. All parts are judged, and of their faults one goes first.
 use Rattle.std.specs.Prelude.{Bool, ◌&&◌, ◌||◌, ◌==◌, nat_lt, nat_le, if◌then◌else◌, List, [], ◌∷◌, Ok, Err}
 use Rattle.sq_base.specs.declared.faults.QueryFault.{QueryFault}
-use Rattle.sq_lex.specs.Outcome.{Outcome}
+use Rattle.sq_base.specs.Outcome.{Outcome}
 use Rattle.sq_typing.specs.declared.codes.TheConstants.{TOO_MANY_FORMS}
 
 -- this one stands at the lesser place, or at the same place and has no higher code

@@ -1,7 +1,7 @@
 //! Typing of FQL.
 
 ghost use Rattle.std.specs.Prelude.{◌≡◌, true, map, IfOk};
-ghost use Rattle.sq_lex.specs.Outcome.{Gives};
+ghost use Rattle.sq_base.specs.Outcome.{Gives};
 ghost use Rattle.sq_model.specs.FqlSound.{IsSound};
 ghost use Rattle.sq_fql.specs.WellFormed.{IsWellFormed};
 ghost use Rattle.sq_typing.specs.Fql as spec;

@@ -1,7 +1,7 @@
 //! Typing of KQL.
 
 ghost use Rattle.std.specs.Prelude.{◌≡◌, true, All, map, IfOk};
-ghost use Rattle.sq_lex.specs.Outcome.{Gives};
+ghost use Rattle.sq_base.specs.Outcome.{Gives};
 ghost use Rattle.sq_schema.specs.Intervals.{clamped};
 ghost use Rattle.sq_kql.specs.WellFormed.{IsWellFormed};
 ghost use Rattle.sq_model.specs.KqlSound.{IsSound};

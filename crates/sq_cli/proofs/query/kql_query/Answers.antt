@@ -1,5 +1,5 @@
 use Rattle.std.proofs.Common.{rules, SFits, w64, to_z-of_z, ap, sym, ◌∙◌, Ok}
-use Rattle.sq_lex.specs.Outcome.{◌>>=◌}
+use Rattle.sq_base.specs.Outcome.{◌>>=◌}
 use Rattle.sq_typing.specs.Fql.{fql_typed}
 use Rattle.sq_cli.specs.Query.{Kql, query_of}
 use Rattle.sq_cli.proofs.QueryLemmas.{means_kql}

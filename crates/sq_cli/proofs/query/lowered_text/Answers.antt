@@ -1,5 +1,5 @@
 use Rattle.std.proofs.Common.{rules, SFits, w64, to_z-of_z, ap, sym, ◌∙◌, Ok}
-use Rattle.sq_lex.specs.Outcome.{◌>>=◌}
+use Rattle.sq_base.specs.Outcome.{◌>>=◌}
 use Rattle.sq_fql.specs.Canon.{canon}
 use Rattle.sq_lower.specs.Lowered.{lowered}
 use Rattle.sq_cli.specs.Query.{lowered_of}
