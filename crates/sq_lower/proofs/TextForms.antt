@@ -16,7 +16,8 @@ use Rattle.std.proofs.lemmas.Str.Parse.{IsNumeralModel, numerals_by_value}
 use Rattle.sq_schema.specs.declared.property.Kind.{Kind}
 use Rattle.sq_schema.specs.declared.property.Kind.TheVariants as kind
 use Rattle.sq_schema.specs.declared.property.Property.{Property}
-use Rattle.sq_schema.specs.Moments.{text_of_moment, date_text, time_text, year_on, month_on, day_on, two_text, four_text}
+use Rattle.sq_schema.specs.Civil.{Civil, civil_of_day}
+use Rattle.sq_schema.specs.Moments.{text_of_moment, date_text, time_text, two_text, four_text}
 use Rattle.sq_schema.specs.Intervals.{day_of_moment}
 use Rattle.sq_schema.specs.Names.{is_name_byte, is_name}
 use Rattle.sq_schema.specs.Properties.{IsSchema, is_sound, fault_behind}
@@ -118,12 +119,12 @@ four_starless n = rw (plain_above (n / 1000), plain_above (n / 100 % 10), plain_
 joined_starless : (left right : List ℕ) → list_all is_plain left ≡ true → list_all is_plain right ≡ true → list_all is_plain (left ++ right) ≡ true
 joined_starless left right h k = list_all-append is_plain left right ∙ and_from (list_all is_plain left) (list_all is_plain right) h k
 
-date_starless : (day : ℤ) → list_all is_plain (date_text day) ≡ true
-date_starless day =
-    let year = four_text (unsigned_abs (year_on day)) ++ codes "-" in
-    let month = year ++ two_text (month_on day) in
-    joined_starless (month ++ codes "-") (two_text (day_on day))
-    (joined_starless month (codes "-") (joined_starless year (two_text (month_on day)) (joined_starless (four_text _) (codes "-") (four_starless _) refl) (two_starless _)) refl)
+date_starless : (date : Civil) → list_all is_plain (date_text date) ≡ true
+date_starless date =
+    let year = four_text (unsigned_abs date.year) ++ codes "-" in
+    let month = year ++ two_text date.month in
+    joined_starless (month ++ codes "-") (two_text date.day)
+    (joined_starless month (codes "-") (joined_starless year (two_text date.month) (joined_starless (four_text _) (codes "-") (four_starless _) refl) (two_starless _)) refl)
     (two_starless _)
 
 time_starless : (second : ℕ) → list_all is_plain (time_text second) ≡ true
@@ -137,10 +138,11 @@ time_starless second =
 moment_starless : (n : ℤ) → list_all is_plain (text_of_moment n) ≡ true
 unfolding text_of_moment
 moment_starless n =
-    let date = date_text (day_of_moment n) ++ codes "T" in
+    let day = civil_of_day (day_of_moment n) in
+    let date = date_text day ++ codes "T" in
     let time = time_text (unsigned_abs (int_rem_euclid n (pos 86_400))) in
     joined_starless (date ++ time) (codes "Z")
-    (joined_starless date time (joined_starless (date_text (day_of_moment n)) (codes "T") (date_starless (day_of_moment n)) refl) (time_starless _)) refl
+    (joined_starless date time (joined_starless (date_text day) (codes "T") (date_starless day) refl) (time_starless _)) refl
 
 moment_short : (n : ℤ) → IsShort (text_of_moment n)
 moment_short n = record { starless = moment_starless n; short = omega (arith, moment_length n) }
