@@ -5,7 +5,7 @@ use Rattle.std.specs.Cmp.{IsStrictWeakOrder}
 use Rattle.std.specs.List.Sorted.{IsPermutation, IsSortedBy}
 use Rattle.std.proofs.lemmas.List.Sorted.{sum_by-IsPermutation}
 use Rattle.std.proofs.lemmas.List.Sums.{sum_by-append, sum_by-cons}
-use Rattle.sq_base.specs.Order.{place, in_order}
+use Rattle.sq_base.specs.Sorting.{put, in_order}
 
 -- 1 where neither comes before the other, else 0
 abbrev pub tie : {X : Type 0} → (X → X → Bool) → X → X → ℕ
@@ -36,17 +36,17 @@ module _ {X : Type 0} (before : X → X → Bool) where
   behind_of : (x y : X) (ys : List X) → sum_by (tie before x) (y ∷ ys) ≢ 0 → tie before x y ≡ 0 → sum_by (tie before x) ys ≢ 0
   behind_of x y ys some none nothing = some (sum_by-cons (tie before x) y ys ∙ omega (arith, none, nothing))
 
-  kept : (y z : X) (zs : List X) → before z y ≡ false → place before y (z ∷ zs) ≡ y ∷ z ∷ zs
+  kept : (y z : X) (zs : List X) → before z y ≡ false → put before y (z ∷ zs) ≡ y ∷ z ∷ zs
   kept y z zs later = grind (arith, later)
 
 module _ {X : Type 0} (before : X → X → Bool) (order : IsStrictWeakOrder before) (same : (x y : X) → before x y ≡ false → before y x ≡ false → x ≡ y) where
-  place_twice : (a b : X) (xs : List X) → place before a (place before b xs) ≡ place before b (place before a xs)
-  place_twice a b [] = grind (arith, order.one_way a b, order.one_way b a, same a b)
-  place_twice a b (y ∷ ys) = grind (arith, place_twice a b ys, order.one_way a b, order.one_way b a, same a b, order.chain a y b, order.chain b y a)
+  put_twice : (a b : X) (xs : List X) → put before a (put before b xs) ≡ put before b (put before a xs)
+  put_twice a b [] = grind (arith, order.one_way a b, order.one_way b a, same a b)
+  put_twice a b (y ∷ ys) = grind (arith, put_twice a b ys, order.one_way a b, order.one_way b a, same a b, order.chain a y b, order.chain b y a)
 
-  placed_first : (x : X) (front behind : List X) → in_order before (front ++ x ∷ behind) ≡ place before x (in_order before (front ++ behind))
-  placed_first x [] behind = refl
-  placed_first x (y ∷ front) behind = ap (place before y) (placed_first x front behind) ∙ place_twice y x (in_order before (front ++ behind))
+  put_first : (x : X) (front behind : List X) → in_order before (front ++ x ∷ behind) ≡ put before x (in_order before (front ++ behind))
+  put_first x [] behind = refl
+  put_first x (y ∷ front) behind = ap (put before y) (put_first x front behind) ∙ put_twice y x (in_order before (front ++ behind))
 
   tie_self : (x : X) → tie before x x ≡ 1
   tie_self x = grind (arith, order.one_way x x)
@@ -69,13 +69,13 @@ module _ {X : Type 0} (before : X → X → Bool) (order : IsStrictWeakOrder bef
       let some : sum_by (tie before x) ys ≢ 0 = λ none. (let whole = sums (tie before x) in let here = sum_by-cons (tie before x) x xs in let self = tie_self x in omega (arith, whole, here, self, none)) in
       let split = found x ys some in
       let rest = cancelled x xs split.front split.behind (subst (λ zs. SameSums (x ∷ xs) zs) split.whole sums) in
-      ap (place before x) (permuted xs (split.front ++ split.behind) rest) ∙ sym (placed_first x split.front split.behind) ∙ ap (in_order before) (sym split.whole)
+      ap (put before x) (permuted xs (split.front ++ split.behind) rest) ∙ sym (put_first x split.front split.behind) ∙ ap (in_order before) (sym split.whole)
 
   sorted : (ys : List X) → IsSortedBy before ys → in_order before ys ≡ ys
   sorted [] up = refl
   sorted (y ∷ []) up = refl
   sorted (y ∷ (z ∷ zs)) up =
-      ap (place before y) (sorted (z ∷ zs) (λ k d low high. simp unary_clauses (simp unary_clauses at (up (k + 1) d (omega arith) (omega (arith, high)))))) ∙ kept before y z zs (up 0 y (lit≤ tt) (omega arith))
+      ap (put before y) (sorted (z ∷ zs) (λ k d low high. simp unary_clauses (simp unary_clauses at (up (k + 1) d (omega arith) (omega (arith, high)))))) ∙ kept before y z zs (up 0 y (lit≤ tt) (omega arith))
 
   pub in_order-sorted : (xs ys : List X) → IsPermutation xs ys → IsSortedBy before ys → ys ≡ in_order before xs
   in_order-sorted xs ys moved up = sym (permuted xs ys (λ f. sum_by-IsPermutation f xs ys moved) ∙ sorted ys up)
