@@ -6,6 +6,3 @@
 mod lists;
 
 pub use lists::Lists;
-
-#[cfg(test)]
-mod tests;

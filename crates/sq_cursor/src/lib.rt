@@ -17,6 +17,3 @@ pub use list::ListCursor;
 pub use or::Or;
 pub use span::Span;
 pub use span_list::SpanListCursor;
-
-#[cfg(test)]
-mod tests;

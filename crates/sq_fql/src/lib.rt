@@ -17,8 +17,3 @@ pub use print::print_fql;
 pub use print_laws::canonical_texts_read_back;
 pub use raw::{FPiece, FRaw, Mode, Op};
 pub use read::read_fql;
-
-#[cfg(test)]
-mod print_tests;
-#[cfg(test)]
-mod tests;

@@ -1,9 +1,10 @@
+//! The meaning of KQL trees, beside that of the FQL trees that they are lowered to.
 ghost use Rattle.std.specs.Prelude.{◌≡◌, ◌<◌, true, length, IfOk};
 ghost use Rattle.std.specs.List.{list_all};
 ghost use Rattle.sq_model.specs.KqlSound.{IsSound};
 ghost use Rattle.sq_model.specs.Valid.{has_short_texts};
 
-use crate::tests::corpus::WORKED;
+use crate::corpus::WORKED;
 use sq_base::Fault;
 use sq_corpus::read_corpus;
 use sq_kql::read_kql;
@@ -15,14 +16,16 @@ use sq_typing::{type_fql, type_kql};
 use std::alloc::{AllocError, Global};
 use std::test::Fail;
 
+/// 2024-02-29T12:00:00Z.
 const MOMENT: i64 = 1_709_208_000;
 
-// KQL texts of every construct, one in each line.
-const KQL_FORMS: &str = "\
+/// KQL texts of every construct, one in each line, and behind some of them what they give the items: whether
+/// they hold, and the boost.
+const FORMS: &str = "\
 debt\n\
-DEBT\n\
+DEBT|false 0;true 0;true 0;\n\
 \"company debt\"\n\
-\"notes acquisition\"\n\
+\"notes acquisition\"|false 0;false 0;false 0;\n\
 acqui*\n\
 \"old ban*\"\n\
 a*\n\
@@ -102,7 +105,7 @@ acquisition NEAR debt\n\
 acquisition NEAR(0) debt\n\
 acquisition NEAR(n=1) debt\n\
 debt ONEAR acquisition\n\
-acquisition ONEAR(n=2) debt\n\
+acquisition ONEAR(n=2) debt|false 0;true 0;false 0;\n\
 acquisition ONEAR(n=1) debt\n\
 merger NEAR old NEAR new\n\
 (merger NEAR old) NEAR(n=4) new\n\
@@ -122,7 +125,7 @@ notes company -board\n\
 debt -nothing -board\n\
 -(debt notes)\n\
 -(debt OR merger) -board\n\
-title:debt title:board\n\
+title:debt title:board|false 0;true 0;true 0;\n\
 title:debt title:nothing\n\
 +title:debt title:board\n\
 +title:debt +title:board\n\
@@ -166,60 +169,48 @@ debt XRANK(cb=5) before XRANK(cb=7) notes\n\
 +(debt XRANK(cb=5) *) size:7\n\
 * XRANK(cb=1) (debt XRANK(cb=100) debt)\n\
 (* XRANK(cb=1000000) size:5..7) XRANK(cb=-1000000) write<>today\n\
-nothing XRANK(cb=5) debt";
+nothing XRANK(cb=5) debt\n\
+size<8 -before|true 0;true 0;false 0;\n\
+write<>1970-01-01T00:00:00Z|true 0;true 0;true 0;\n\
+debt XRANK(cb=5) before OR memo|false 0;true 0;true 5;";
 
-/// Whether both trees hold of the item in a row, or both don't.
-fn holds_alike(
-    alloc: Global,
-    corpus: &Corpus,
-    tree: &KTree,
-    lowered: &FTree,
-    row: u32,
-) -> Result<bool, AllocError>
+fn kql_gives(alloc: Global, corpus: &Corpus, tree: &KTree, row: u32) -> Result<String, AllocError>
     requires row { row < length corpus.now.items }
     requires short { list_all has_short_texts corpus.now.items ≡ true }
 {
-    let first = kql_holds_slow(alloc, corpus, tree, row)?;
-    let second = fql_holds_slow(alloc, corpus, lowered, row)?;
-    Ok(first == second)
+    let holds = kql_holds_slow(alloc, corpus, tree, row)?;
+    let boost = kql_boost_slow(alloc, corpus, tree, row)?;
+    format!(in alloc; "{holds} {boost};")
 }
 
-/// Whether both trees give the item in a row the same boost.
-fn boosts_alike(
-    alloc: Global,
-    corpus: &Corpus,
-    tree: &KTree,
-    lowered: &FTree,
-    row: u32,
-) -> Result<bool, AllocError>
+fn fql_gives(alloc: Global, corpus: &Corpus, tree: &FTree, row: u32) -> Result<String, AllocError>
     requires row { row < length corpus.now.items }
     requires short { list_all has_short_texts corpus.now.items ≡ true }
 {
-    let first = kql_boost_slow(alloc, corpus, tree, row)?;
-    let second = fql_boost_slow(alloc, corpus, lowered, row)?;
-    Ok(first == second)
+    let holds = fql_holds_slow(alloc, corpus, tree, row)?;
+    let boost = fql_boost_slow(alloc, corpus, tree, row)?;
+    format!(in alloc; "{holds} {boost};")
 }
 
-/// The same for each item.
-fn is_same_in_all(
+/// What a tree gives the items, and what its lowered tree gives them.
+fn both_give(
     alloc: Global,
     corpus: &Corpus,
     tree: &KTree,
     lowered: &FTree,
-) -> Result<bool, AllocError>
+) -> Result<(String, String), AllocError>
     requires { list_all has_short_texts corpus.now.items ≡ true }
 {
-    let Ok(count) = u32::try_from(corpus.items.len()) else {
-        return Ok(false);
-    };
+    let mut own = String::new(alloc);
+    let mut other = String::new(alloc);
+    let count = u32::try_from(corpus.items.len()).unwrap_or(0);
     for row in 0..count {
-        let hold = holds_alike(alloc, corpus, tree, lowered, row)?;
-        let boost = boosts_alike(alloc, corpus, tree, lowered, row)?;
-        if !hold || !boost {
-            return Ok(false);
-        }
+        let gives = kql_gives(alloc, corpus, tree, row)?;
+        own.push_str(gives.as_str())?;
+        let gives = fql_gives(alloc, corpus, lowered, row)?;
+        other.push_str(gives.as_str())?;
     }
-    Ok(true)
+    Ok((own, other))
 }
 
 fn typed(alloc: Global, schema: &Schema, text: &str) -> Result<KTree, Fault>
@@ -236,13 +227,13 @@ fn lowered(alloc: Global, schema: &Schema, tree: &KTree) -> Result<FTree, Fault>
     type_fql(alloc, &raw, schema)
 }
 
-/// Whether the tree of a KQL text and its lowered tree are the same for each item.
-fn is_same(alloc: Global, corpus: &Corpus, text: &str) -> Result<bool, Fault>
+/// The same of a text.
+fn given(alloc: Global, corpus: &Corpus, text: &str) -> Result<(String, String), Fault>
     requires { list_all has_short_texts corpus.now.items ≡ true }
 {
     let tree = typed(alloc, &corpus.schema, text)?;
     let lowered = lowered(alloc, &corpus.schema, &tree)?;
-    Ok(is_same_in_all(alloc, corpus, &tree, &lowered)?)
+    Ok(both_give(alloc, corpus, &tree, &lowered)?)
 }
 
 #[test]
@@ -251,8 +242,11 @@ fn a_lowered_tree_holds_of_the_same_items_with_the_same_boosts(
 ) -> Result<(), Fail> {
     let alloc = rt.alloc();
     let corpus = read_corpus(alloc, WORKED.as_bytes())?;
-    for text in KQL_FORMS.split('\n') {
-        assert!(rt; is_same(alloc, &corpus, text)?, "at {text}");
+    for row in FORMS.split('\n') {
+        let (text, want) = row.split_once('|').unwrap_or((row, ""));
+        let (own, other) = given(alloc, &corpus, text)?;
+        assert_eq!(rt; own.as_str(), other.as_str(), "at {row}");
+        assert!(rt; want == "" || own.as_str() == want, "at {row}");
     }
     Ok(())
 }

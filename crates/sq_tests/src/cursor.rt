@@ -1,9 +1,10 @@
+//! Cursors over lists of rows and of spans, with a counter of steps.
 ghost use Rattle.std.specs.Prelude.{◌≡◌, ◌<◌, true};
 ghost use Rattle.sq_cursor.specs.Rows.{IsRising};
 ghost use Rattle.sq_cursor.specs.Spans.{are_ordered};
 
-use crate::{And, AndNot, ItemCursor, ListCursor, Or, Span, SpanCursor, SpanListCursor};
 use sq_base::Steps;
+use sq_cursor::{And, AndNot, ItemCursor, ListCursor, Or, Span, SpanCursor, SpanListCursor};
 use std::alloc::{AllocError, Global};
 use std::marker::Brand;
 use std::sync::ledger::{Blank, Ledger};
@@ -39,6 +40,7 @@ fn divided<L: Ledger>(
     requires c_rises { IsRising c.now }
 {
     let steps = &mut Steps::<L>::new(blank);
+    steps.tick();
     let parts = vec![in alloc; ListCursor::new(a, steps), ListCursor::new(b, steps)]?;
     let either = Or::new(parts, steps);
     let within = ListCursor::new(c, steps);

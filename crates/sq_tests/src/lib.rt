@@ -1,0 +1,22 @@
+//! Tests of what no command of the program reaches, a file for each layer. The crate has no function of its
+//! own.
+#![tactic(auto)]
+
+#[cfg(test)]
+mod corpus;
+#[cfg(test)]
+mod cursor;
+#[cfg(test)]
+mod fql;
+#[cfg(test)]
+mod lex;
+#[cfg(test)]
+mod lower;
+#[cfg(test)]
+mod memory;
+#[cfg(test)]
+mod pool;
+#[cfg(test)]
+mod schema;
+#[cfg(test)]
+mod tokens;
