@@ -1,0 +1,11 @@
+//! Packets: what a client asks for, read from its XML text.
+#![tactic(auto)]
+
+mod draft;
+mod element;
+mod fault;
+mod mark;
+mod request;
+
+pub use fault::PacketFault;
+pub use request::{Direction, Language, RefinerSpec, Request, SortSpec};
