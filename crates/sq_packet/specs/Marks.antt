@@ -1,5 +1,5 @@
 -- The characters of a text with their places, and what reading takes from the front.
-use Rattle.std.specs.Prelude.{◌≡◌, ℕ, ◌+◌, Bool, true, false, ◌&&◌, ◌||◌, ◌==◌, if◌then◌else◌, List, [], ◌∷◌, drop, length, codes, Ok, Err, Result, nat_lt}
+use Rattle.std.specs.Prelude.{◌≡◌, ℕ, ◌+◌, Bool, true, false, ◌&&◌, ◌||◌, ◌==◌, if◌then◌else◌, List, [], ◌∷◌, ◌++◌, drop, length, codes, Ok, Err, Result, nat_lt}
 use Rattle.std.specs.Char.{encode_utf8, is_ascii_alphabetic, is_ascii_alphanumeric, is_ascii_digit, is_ascii_hexdigit}
 use Rattle.std.specs.List.{list_all}
 use Rattle.std.specs.Borrow.{Bor}
@@ -84,10 +84,10 @@ is_in class.AttributeName c = is_name_char c || c == 58
 is_in class.Digit c = is_ascii_digit c
 is_in class.HexDigit c = is_ascii_hexdigit c
 
--- the characters of a class at the front, and the marks behind them
+-- the text of the characters of a class at the front, and the marks behind them
 abbrev pub run : Class → List Mark → List ℕ × List Mark
 run of [] = ([], [])
-run of (m ∷ ms) = if is_in of m.c then (let more = run of ms in (m.c ∷ more.0, more.1)) else ([], m ∷ ms)
+run of (m ∷ ms) = if is_in of m.c then (let more = run of ms in (encode_utf8 m.c ++ more.0, more.1)) else ([], m ∷ ms)
 
 -- a name that ends where the text ends isn't known to be whole
 abbrev pub whole_name : ℕ → List ℕ × List Mark → Outcome (List ℕ × List Mark)
