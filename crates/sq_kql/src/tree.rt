@@ -131,7 +131,7 @@ fn with_free(alloc: Global, at: u32, piece: Piece, reading: &mut Reading) -> Res
         }
         Some(mut listing) => {
             listing.pieces.push(piece)?;
-            let _none = reading.listing.replace(listing);
+            let_go(reading.listing.replace(listing));
             Ok(())
         }
     }
@@ -177,7 +177,7 @@ fn with_close(alloc: Global, reading: &mut Reading) -> Result<(), AllocError>
 {
     let mut outer = replace(&mut reading.outer, List::new(alloc)).into_vec();
     let innermost = outer.pop();
-    let _none = replace(&mut reading.outer, List::from_vec(outer));
+    let_go(replace(&mut reading.outer, List::from_vec(outer)));
     match innermost {
         None => Ok(()),
         Some(Outer { level, at }) => {
@@ -205,7 +205,7 @@ fn shift(
         KKind::Free(cut) => with_free(alloc, at, cut_piece(alloc, text, cut)?, reading),
         KKind::Words(_) => {
             let pieces = List::new(alloc);
-            let _none = reading.listing.replace(Listing { at, pieces });
+            let_go(reading.listing.replace(Listing { at, pieces }));
             Ok(())
         }
         KKind::WordsEnd => with_list(alloc, reading),
