@@ -22,7 +22,7 @@ use Rattle.sq_schema.specs.Intervals.{day_of_moment}
 use Rattle.sq_schema.specs.Names.{is_name_byte, is_name}
 use Rattle.sq_schema.specs.Properties.{IsSchema, is_sound, fault_behind}
 use Rattle.sq_tokens.specs.Pattern.{has_good_star, without_good_star, first_bad_star}
-use Rattle.sq_model.specs.Kinds.{is_integer_value}
+use Rattle.sq_schema.specs.Bounds.{least_number, greatest_number, is_integer_value}
 use Rattle.sq_model.specs.KqlSound.{is_value_test}
 use Rattle.sq_model.specs.declared.kql.Relation.{Relation}
 use Rattle.sq_lex.specs.declared.class.Class.TheVariants as class
@@ -95,11 +95,11 @@ decimal_short n small = length-decimal-le 19 n (omega arith) (omega arith) (omeg
 
 integer_short : (n : ℤ) → is_integer_value n ≡ true → IsShort (signed_decimal n)
 integer_short (pos n) h =
-    let parts = and_parts (int_le (neg_ℤ (pos 9_223_372_036_854_775_808)) (pos n)) (int_le (pos n) (pos 9_223_372_036_854_775_807)) h in
+    let parts = and_parts (int_le least_number (pos n)) (int_le (pos n) greatest_number) h in
     let few : n ≤ 9_223_372_036_854_775_807 = grind (arith, ints, nat_tests, parts.1) in
     record { starless = decimal_starless n (omega arith); short = omega (arith, decimal_short n (omega arith)) }
 integer_short (negsuc n) h =
-    let parts = and_parts (int_le (neg_ℤ (pos 9_223_372_036_854_775_808)) (negsuc n)) (int_le (negsuc n) (pos 9_223_372_036_854_775_807)) h in
+    let parts = and_parts (int_le least_number (negsuc n)) (int_le (negsuc n) greatest_number) h in
     let few : suc n ≤ 9_223_372_036_854_775_808 = grind (arith, ints, nat_tests, parts.0) in
     record { starless = decimal_starless (suc n) (omega arith); short = omega (arith, decimal_short (suc n) (omega arith)) }
 
