@@ -6,7 +6,7 @@ use Rattle.std.proofs.lemmas.Bool.{ltb-true, lt-ltb, leb-true, le-leb}
 use Rattle.sq_least.specs.Dense.{Within}
 use Rattle.sq_least.specs.Laws.{Inside, IsLeast, AreLeast, OneWeightEach, NearOfLeast}
 use Rattle.sq_model.proofs.Members.{IsIn}
-use Rattle.sq_model.specs.Triples.{join, rises, in_order, is_near, near}
+use Rattle.sq_model.specs.Triples.{join, rises, keeps_order, is_near, near}
 use Rattle.sq_model.specs.declared.triple.Triple.{Triple}
 use Rattle.sq_model.proofs.Choices.{IsChoice, to_near, of_near}
 
@@ -133,7 +133,7 @@ rises_within (s ∷ u ∷ small) (t ∷ v ∷ chosen) w e =
     let closer : s.last < u.first = omega (arith, w.0.0.1, w.1.0.0.0) in
     and_of (nat_lt s.last u.first) (rises (u ∷ small)) (lt-ltb s.last u.first closer) (rises_within (u ∷ small) (v ∷ chosen) w.1 h.1)
 
-pub ordered_within : (ordered : Bool) (small chosen : List Triple) → EachWithin small chosen → in_order ordered chosen ≡ true → in_order ordered small ≡ true
+pub ordered_within : (ordered : Bool) (small chosen : List Triple) → EachWithin small chosen → keeps_order ordered chosen ≡ true → keeps_order ordered small ≡ true
 ordered_within false small chosen w e = refl
 ordered_within true small chosen w e = rises_within small chosen w e
 

@@ -2,7 +2,7 @@
 use Rattle.std.proofs.Common.{◌≡◌, ℕ, ◌+◌, ◌-◌, Bool, true, false, ◌&&◌, List, [], ◌∷◌, map, refl, sym, ◌∙◌, ap, ap₂, Some, arith}
 use Rattle.std.specs.Prelude.{nat_lt, nat_le}
 use Rattle.std.specs.List.{fold, reduce, sum}
-use Rattle.sq_model.specs.Triples.{join, rises, in_order, is_near, near}
+use Rattle.sq_model.specs.Triples.{join, rises, keeps_order, is_near, near}
 use Rattle.sq_model.specs.declared.triple.Triple.{Triple}
 use Rattle.sq_model.proofs.Members.{to_map, of_map}
 use Rattle.sq_model.proofs.Choices.{IsChoice, IsNear, to_near, of_near}
@@ -16,7 +16,7 @@ rises_weightless [] = refl
 rises_weightless (s ∷ []) = refl
 rises_weightless (s ∷ t ∷ chosen) = ap (λ b. nat_lt s.last t.first && b) (rises_weightless (t ∷ chosen))
 
-ordered_weightless : (ordered : Bool) (chosen : List Triple) → in_order ordered (map weightless chosen) ≡ in_order ordered chosen
+ordered_weightless : (ordered : Bool) (chosen : List Triple) → keeps_order ordered (map weightless chosen) ≡ keeps_order ordered chosen
 ordered_weightless false chosen = refl
 ordered_weightless true chosen = rises_weightless chosen
 
@@ -91,7 +91,7 @@ module _ (n : ℕ) (ordered : Bool) (vs : List ℕ) (parts : List (List Triple))
       (t, to_near n ordered parts t (record {
         chosen = x ∷ xs;
         is_choice = h;
-        is_ordered = sym (ordered_weightless ordered (x ∷ xs)) ∙ ap (in_order ordered) (sym same) ∙ r.is_ordered;
+        is_ordered = sym (ordered_weightless ordered (x ∷ xs)) ∙ ap (keeps_order ordered) (sym same) ∙ r.is_ordered;
         joins = refl;
         is_close = near_by_width n (sum vs) t total ∙ ap (is_near (n + sum vs)) is ∙ r.is_close;
       }), ap (λ (u : Triple). u.first) is ∙ e, ap (λ (u : Triple). u.last) is ∙ f)

@@ -1,7 +1,7 @@
 -- A near as a relation: there is a choice of one match of each part.
 use Rattle.std.proofs.Common.{◌≡◌, inl, inr, ℕ, Bool, true, List, [], ◌∷◌, map, refl, sym, Some, subst}
 use Rattle.std.specs.List.{filter, filter_map, reduce}
-use Rattle.sq_model.specs.Triples.{join, choices, in_order, is_near, near}
+use Rattle.sq_model.specs.Triples.{join, choices, keeps_order, is_near, near}
 use Rattle.sq_model.specs.declared.triple.Triple.{Triple}
 use Rattle.sq_model.proofs.Members.{IsIn, to_filter, of_filter, to_map, of_map, to_flat_map, of_flat_map, to_filter_map, of_filter_map}
 
@@ -32,19 +32,19 @@ module _ {X : Type 0} where
 pub record IsNear (n : ℕ) (ordered : Bool) (parts : List (List Triple)) (t : Triple) : Type 0 where
   pub chosen : List Triple
   pub is_choice : IsChoice chosen parts
-  pub is_ordered : in_order ordered chosen ≡ true
+  pub is_ordered : keeps_order ordered chosen ≡ true
   pub joins : reduce join chosen ≡ Some t
   pub is_close : is_near n t ≡ true
 
 pub to_near : (n : ℕ) (ordered : Bool) (parts : List (List Triple)) (t : Triple) → IsNear n ordered parts t → IsIn t (near n ordered parts)
 to_near n ordered parts t h =
     to_filter (is_near n) t _
-    (to_filter_map (reduce join) t h.chosen _ (to_filter (in_order ordered) h.chosen _ (to_choices h.chosen parts h.is_choice) h.is_ordered) h.joins)
+    (to_filter_map (reduce join) t h.chosen _ (to_filter (keeps_order ordered) h.chosen _ (to_choices h.chosen parts h.is_choice) h.is_ordered) h.joins)
     h.is_close
 
 pub of_near : (n : ℕ) (ordered : Bool) (parts : List (List Triple)) (t : Triple) → IsIn t (near n ordered parts) → IsNear n ordered parts t
 of_near n ordered parts t h =
-    let r = of_filter (is_near n) t (filter_map (reduce join) (filter (in_order ordered) (choices parts))) h in
-    let s = of_filter_map (reduce join) t (filter (in_order ordered) (choices parts)) r.0 in
-    let u = of_filter (in_order ordered) s.0 (choices parts) s.1 in
+    let r = of_filter (is_near n) t (filter_map (reduce join) (filter (keeps_order ordered) (choices parts))) h in
+    let s = of_filter_map (reduce join) t (filter (keeps_order ordered) (choices parts)) r.0 in
+    let u = of_filter (keeps_order ordered) s.0 (choices parts) s.1 in
     record { chosen = s.0; is_choice = of_choices s.0 parts u.0; is_ordered = u.1; joins = s.2; is_close = r.1 }

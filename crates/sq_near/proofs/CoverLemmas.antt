@@ -5,7 +5,7 @@ use Rattle.std.specs.Prelude.{nat_le}
 use Rattle.std.specs.List.{fold, reduce}
 use Rattle.std.proofs.lemmas.Bool.{eq-eqb, cases_order}
 use Rattle.std.proofs.lemmas.Bool.Decides.{nat_tests}
-use Rattle.sq_model.specs.Triples.{join, in_order, is_near, near}
+use Rattle.sq_model.specs.Triples.{join, keeps_order, is_near, near}
 use Rattle.sq_model.specs.declared.triple.Triple.{Triple}
 use Rattle.sq_cursor.specs.declared.span.Span.{Span}
 use Rattle.sq_cursor.specs.Spans.{passage_of}
@@ -101,7 +101,7 @@ pub record IsCover (width : ℕ) (ordered : Bool) (lists : List (List Span)) (s 
   pub chosen : List Span
   pub choice : IsChoice chosen lists
   pub at : (x : Span) → IsIn x chosen → (x.row ≡ s.row) × (x.part ≡ s.part)
-  pub order : in_order ordered (map (match_of 0) chosen) ≡ true
+  pub order : keeps_order ordered (map (match_of 0) chosen) ≡ true
   pub hull : IsHull chosen s
   pub near : nat_le (s.last - s.first + 1) (width + 0) ≡ true
 
@@ -116,7 +116,7 @@ of_cover width ordered (l ∷ lists) s h =
     at p m.0 m.2 n.chosen c.0 c.1 c.2 c.3 n.is_ordered n.joins n.is_close
   where
     at : (p : ℕ × ℕ) (t : Triple) → s ≡ span_of p t → (ts : List Triple) (xs : List Span) → IsChoice xs (l ∷ lists) → ((x : Span) → IsIn x xs → (x.row ≡ p.0) × (x.part ≡ p.1)) →
-        ts ≡ map (match_of 0) xs → in_order ordered ts ≡ true → reduce join ts ≡ Some t → is_near width t ≡ true → IsCover width ordered (l ∷ lists) s
+        ts ≡ map (match_of 0) xs → keeps_order ordered ts ≡ true → reduce join ts ≡ Some t → is_near width t ≡ true → IsCover width ordered (l ∷ lists) s
     at p t e ts [] c f g o j k = absurd c
     at p t e ts (x ∷ xs) c f g o j k =
         let w : match_of 0 (fold hull x xs) ≡ t = some (sym (ap Some (fold_matches x xs)) ∙ sym (ap (reduce join) g) ∙ j) in
@@ -128,7 +128,7 @@ of_cover width ordered (l ∷ lists) s h =
           chosen = x ∷ xs;
           choice = c;
           at = λ y i. let q = f y i in (q.0 ∙ sym (ap (λ u. u.row) e), q.1 ∙ sym (ap (λ u. u.part) e));
-          order = ap (in_order ordered) (sym g) ∙ o;
+          order = ap (keeps_order ordered) (sym g) ∙ o;
           hull = record {
             within = λ y i. let q = h.within y i in (omega (arith, q.0, first), omega (arith, q.1, last));
             first = (h.first.0, h.first.1, h.first.2 ∙ first);
@@ -151,7 +151,7 @@ to_cover width ordered (l ∷ lists) s h = at h.chosen h.choice h.at h.order h.h
     p : ℕ × ℕ
     p = passage_of s
 
-    at : (xs : List Span) → IsChoice xs (l ∷ lists) → ((x : Span) → IsIn x xs → (x.row ≡ s.row) × (x.part ≡ s.part)) → in_order ordered (map (match_of 0) xs) ≡ true → IsHull xs s →
+    at : (xs : List Span) → IsChoice xs (l ∷ lists) → ((x : Span) → IsIn x xs → (x.row ≡ s.row) × (x.part ≡ s.part)) → keeps_order ordered (map (match_of 0) xs) ≡ true → IsHull xs s →
         IsIn s (covers width ordered (l ∷ lists))
     at [] c f o g = absurd c
     at (x ∷ xs) c f o g =

@@ -4,7 +4,7 @@ use Rattle.std.specs.Prelude.{eqb, nat_le, option_map}
 use Rattle.std.proofs.lemmas.Bool.{eqb-true}
 use Rattle.sq_cursor.specs.declared.span.Span.{Span}
 use Rattle.sq_cursor.specs.Spans.{passage_of, is_passage_before, comes_after, are_ordered, spans_from}
-use Rattle.sq_model.specs.Triples.{in_order}
+use Rattle.sq_model.specs.Triples.{keeps_order}
 use Rattle.sq_near.specs.Covers.{match_of, covers, joined_spans}
 use Rattle.sq_near.specs.Least.{least_of, ordered_least}
 use Rattle.sq_near.specs.declared.cover.Cover.{Cover}
@@ -53,7 +53,7 @@ settle_leads width ordered p lists new next cover n o f k e =
     at None e stands h = absurd (hull_stands p new h stands (sym e))
     at (Some c) e stands h =
         leading width ordered p (cover_span c) new o h
-        (subst (λ k. HeadsAt p k → in_order ordered (map (match_of 0) (heads k)) ≡ true) (sym n) (settled_order ordered p lists) h) (sym e) c.rises
+        (subst (λ k. HeadsAt p k → keeps_order ordered (map (match_of 0) (heads k)) ≡ true) (sym n) (settled_order ordered p lists) h) (sym e) c.rises
 
 pub settle_ahead : (ordered : Bool) (p : ℕ × ℕ) (lists new : List (List Span)) (next : Option (ℕ × ℕ)) → new ≡ settled ordered p lists → next ≡ furthest_from None new → is_here next p ≡ false →
     p.0 < 2 ^ 32 → p.1 < 2 ^ 32 → passages_ahead next < passages_ahead (Some p)

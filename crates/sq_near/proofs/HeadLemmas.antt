@@ -6,7 +6,7 @@ use Rattle.std.specs.List.{fold}
 use Rattle.std.proofs.lemmas.Bool.{eq-eqb, eqb-true}
 use Rattle.std.proofs.lemmas.Bool.Decides.{nat_tests}
 use Rattle.std.proofs.lemmas.List.{length-map}
-use Rattle.sq_model.specs.Triples.{in_order, rises}
+use Rattle.sq_model.specs.Triples.{keeps_order, rises}
 use Rattle.sq_cursor.specs.declared.span.Span.{Span}
 use Rattle.sq_cursor.specs.Spans.{passage_of, is_passage_before, are_ordered, spans_from}
 use Rattle.sq_near.specs.Covers.{match_of}
@@ -213,7 +213,7 @@ strung_rises p (suc n) ((s ∷ spans) ∷ m ∷ lists) l h =
     subst (λ k. rises (map (match_of 0) (s ∷ heads k)) ≡ true) (sym r.1)
     (one_more p s few r.0 (subst (HeadsAt p) r.1 h.1) (λ t i. (of_filter (is_beyond p s.last) t m i).1) (subst (λ k. rises (map (match_of 0) (heads k)) ≡ true) r.1 more))
 
-pub settled_order : (ordered : Bool) (p : ℕ × ℕ) (lists : List (List Span)) → HeadsAt p (settled ordered p lists) → in_order ordered (map (match_of 0) (heads (settled ordered p lists))) ≡ true
+pub settled_order : (ordered : Bool) (p : ℕ × ℕ) (lists : List (List Span)) → HeadsAt p (settled ordered p lists) → keeps_order ordered (map (match_of 0) (heads (settled ordered p lists))) ≡ true
 settled_order true p lists h = strung_rises p (length lists - 1) (map (spans_from p) lists) (omega (arith, length-map lists (spans_from p))) h
 settled_order false p lists h = refl
 
@@ -263,7 +263,7 @@ span_above p ((s ∷ spans) ∷ lists) (y ∷ xs) o h c a i = ⊎_elim
     (λ k. let r = span_above p lists xs o.1 h.1 c.1 a k in (r.0, inr r.1, r.2)) i
 
 -- the cover of the first spans leads
-pub leading : (width : ℕ) (ordered : Bool) (p : ℕ × ℕ) (c : Span) (lists : List (List Span)) → AllOrdered lists → HeadsAt p lists → in_order ordered (map (match_of 0) (heads lists)) ≡ true →
+pub leading : (width : ℕ) (ordered : Bool) (p : ℕ × ℕ) (c : Span) (lists : List (List Span)) → AllOrdered lists → HeadsAt p lists → keeps_order ordered (map (match_of 0) (heads lists)) ≡ true →
     hull_from None lists ≡ Some c → nat_le c.first c.last ≡ true → IsLeading width ordered lists c
 leading width ordered p c lists o h order e proper =
     let r = heads_hull p c lists h e in
