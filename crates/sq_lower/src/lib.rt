@@ -9,6 +9,3 @@ mod runs;
 
 pub use laws::lowering_keeps_meaning;
 pub use lowering::lower;
-
-#[cfg(test)]
-mod tests;
