@@ -19,6 +19,8 @@ mod memory;
 #[cfg(test)]
 mod pool;
 #[cfg(test)]
+mod responses;
+#[cfg(test)]
 mod schema;
 #[cfg(test)]
 mod tokens;
