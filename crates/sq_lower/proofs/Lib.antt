@@ -1,7 +1,6 @@
 mod CopiesLemmas
 mod DistinctLemmas
 mod Form
-mod FormEquations
 mod Groups
 mod JoinedLemmas
 mod MeaningBoost
