@@ -1,5 +1,4 @@
 mod CopiesLemmas
-mod DistinctLemmas
 mod Form
 mod Groups
 mod JoinedLemmas
@@ -17,7 +16,6 @@ mod RunTests
 mod RunWeights
 mod SeenRuns
 mod SoundParts
-mod SpanEquations
 mod TestLemmas
 mod TextForms
 mod TreeEquations
