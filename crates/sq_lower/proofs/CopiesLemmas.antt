@@ -13,9 +13,9 @@ use Rattle.sq_model.specs.KqlSound.{PartsSound, SomeSound, EachSound}
 use Rattle.sq_model.specs.declared.leaf.Leaf.{Leaf}
 use Rattle.sq_model.specs.declared.fql.SpanTree.TheVariants as s
 use Rattle.sq_model.specs.declared.kql.KTree.{KTree, Free, Words, Group', Near', Or', Row_of-KTree, end_of-KTree, more_of-KTree}
-use Rattle.sq_lower.proofs.DistinctLemmas.{distinct_again}
 use Rattle.sq_lower.proofs.Form.{spans, spans_each}
-use Rattle.sq_lower.proofs.SpanEquations.{weights_union, weights_near, copies_union, copies_near}
+use Rattle.sq_typing.proofs.DistinctLemmas.{distinct_again}
+use Rattle.sq_typing.proofs.SpanLemmas.{weights_union, weights_near, copies_union, copies_near}
 
 -- ---- weights
 

@@ -1,7 +1,5 @@
 mod CopiesLemmas
-mod DistinctLemmas
 mod Form
-mod FormEquations
 mod Groups
 mod JoinedLemmas
 mod MeaningBoost
@@ -18,7 +16,6 @@ mod RunTests
 mod RunWeights
 mod SeenRuns
 mod SoundParts
-mod SpanEquations
 mod TestLemmas
 mod TextForms
 mod TreeEquations

@@ -29,7 +29,7 @@ use Rattle.sq_model.specs.declared.fql.FTree.TheVariants as f
 use Rattle.sq_lower.specs.Law.{IsSame}
 use Rattle.sq_lower.specs.Runs.{Form, forms_of, is_required, is_subtracted, restricts, properties, alone_or, less, gathers, is_gathered, in_one_place, gathered_form, run_form}
 use Rattle.sq_lower.proofs.Form.{form, form_each, operand_forms, text_tree, value_tree, value_tree_of, tree_connectives}
-use Rattle.sq_lower.proofs.FormEquations.{gain_and, gain_or, gain_and_not, gain_xrank}
+use Rattle.sq_model.proofs.FqlEquations.{gain_and, gain_or, gain_and_not, gain_xrank}
 use Rattle.sq_lower.proofs.RunTests.{any_map, and_left}
 use Rattle.sq_lower.proofs.MeaningRuns.{holds_less}
 use Rattle.sq_lower.proofs.MeaningHolds.{each_of_some, operands_of_some, same_holds, same_each}

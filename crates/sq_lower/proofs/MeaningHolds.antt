@@ -30,7 +30,7 @@ use Rattle.sq_model.specs.declared.fql.FTree.TheVariants as f
 use Rattle.sq_typing.specs.FqlNumbers.{within}
 use Rattle.sq_lower.specs.Runs.{is_minus}
 use Rattle.sq_lower.proofs.Form.{form, form_each, operand_forms, spans, text_tree, value_tree, value_tree_of, related}
-use Rattle.sq_lower.proofs.FormEquations.{holds_or, holds_and, holds_not, holds_xrank}
+use Rattle.sq_model.proofs.FqlEquations.{holds_or, holds_and, holds_not, holds_xrank}
 use Rattle.sq_lower.proofs.RunTests.{any_same, any_map}
 use Rattle.sq_lower.proofs.MeaningSpans.{same_triples}
 use Rattle.sq_lower.proofs.MeaningRuns.{IsMade, judge_form, same_run}

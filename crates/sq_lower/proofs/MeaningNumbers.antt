@@ -18,7 +18,7 @@ use Rattle.sq_model.specs.declared.corpus.Value.{Value}
 use Rattle.sq_model.specs.declared.kql.Relation.{Relation}
 use Rattle.sq_model.specs.declared.kql.Relation.TheVariants.{Has, Equal, Less, More, AtMost, AtLeast, Unequal, Range}
 use Rattle.sq_schema.specs.Bounds.{is_from_to, is_integer_value, is_moment_value, least_number, greatest_number}
-use Rattle.sq_typing.specs.FqlNumbers.{between, from_to}
+use Rattle.sq_typing.specs.FqlNumbers.{between, interval_or_empty}
 use Rattle.sq_lower.proofs.Form.{meant, related}
 use Rattle.sq_lower.proofs.RunTests.{any_same, and_left, and_right}
 
@@ -65,7 +65,7 @@ module _ (schema : List Property) (property : ℕ) where
 
 -- ---- intervals
 
--- from_to, by its test
+-- interval_or_empty, by its test
 abbrev from_to_if : Bool → ℤ → ℤ → Interval
 from_to_if full a b = if full then record { first = a; last = b } else record { first = pos 1; last = pos 0 }
 
@@ -74,9 +74,9 @@ from_to_one : (a b n : ℤ) (full : Bool) → int_le a b ≡ full → (int_le (f
 from_to_one a b n true e = refl
 from_to_one a b n false e = grind (arith, ints)
 
-pub from_to_within : (a b : ℤ) (ns : List ℤ) → some_within (from_to a b).first (from_to a b).last ns ≡ some_within a b ns
+pub from_to_within : (a b : ℤ) (ns : List ℤ) → some_within (interval_or_empty a b).first (interval_or_empty a b).last ns ≡ some_within a b ns
 from_to_within a b ns =
-    any_same (λ n. int_le (from_to a b).first n && int_le n (from_to a b).last) (λ n. int_le a n && int_le n b)
+    any_same (λ n. int_le (interval_or_empty a b).first n && int_le n (interval_or_empty a b).last) (λ n. int_le a n && int_le n b)
     (λ n. from_to_one a b n (int_le a b) refl) ns
 
 below_is : (n first : ℤ) → is_integer_value n ≡ true → (int_le least_number n && int_le n (first -ℤ pos 1)) ≡ int_lt n first

@@ -20,7 +20,7 @@ use Rattle.sq_model.specs.declared.fql.FTree.{FTree}
 use Rattle.sq_model.specs.declared.fql.FTree.TheVariants as f
 use Rattle.sq_lower.specs.Runs.{Form, forms_of, is_required, is_subtracted, is_minus, restricts, properties, alone_or, less, in_one_place, gathered_form, run_form}
 use Rattle.sq_lower.proofs.Form.{tree_connectives}
-use Rattle.sq_lower.proofs.FormEquations.{holds_or, holds_and, holds_not, holds_and_not}
+use Rattle.sq_model.proofs.FqlEquations.{holds_or, holds_and, holds_not, holds_and_not}
 use Rattle.sq_lower.proofs.RunTests.{and-true, or-false, all_same, all_both, any_filter, any_without, all_filter, none_both, any_map, given, all_once}
 
 -- no minus operand restricts a property or is loose

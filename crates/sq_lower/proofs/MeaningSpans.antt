@@ -11,7 +11,7 @@ use Rattle.sq_model.specs.declared.leaf.Leaf.{Leaf}
 use Rattle.sq_model.specs.declared.kql.KTree.{KTree, Free, All, Words, Group', TextTest, ValueTest, Near', Run', And', Or', Xrank', Row_of-KTree, end_of-KTree, more_of-KTree}
 use Rattle.sq_model.specs.declared.fql.SpanTree.TheVariants as s
 use Rattle.sq_lower.proofs.Form.{spans, spans_each}
-use Rattle.sq_lower.proofs.FormEquations.{triples_union, triples_near}
+use Rattle.sq_model.proofs.FqlEquations.{triples_union, triples_near}
 
 joined_of_leaves : (t : Passage) (leaves : List Leaf) → joined (map (fql.triples t) (map s.Leaf leaves)) ≡ flat_map (λ leaf. of_phrase leaf.pattern t) leaves
 joined_of_leaves t [] = refl

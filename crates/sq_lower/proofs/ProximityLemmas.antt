@@ -13,12 +13,11 @@ use Rattle.sq_model.specs.declared.fql.SpanTree.TheVariants as s
 use Rattle.sq_model.specs.declared.fql.FTree.TheVariants as f
 use Rattle.sq_model.specs.declared.kql.Joiner.{Joiner}
 use Rattle.sq_model.specs.declared.kql.KTree.{KTree, Free, Words, Group', Near', Or', Row_of-KTree, end_of-KTree, more_of-KTree}
-use Rattle.sq_base.specs.Outcome.{Outcome}
 use Rattle.sq_fql.specs.declared.raw.FRaw.{FRaw}
 use Rattle.sq_fql.specs.declared.raw.Op.{Op}
 use Rattle.sq_fql.specs.declared.raw.Op.TheVariants as op
-use Rattle.sq_typing.specs.Fql.{joins, joined_spans, joined_all, proximity, proximate, few_copies, outermost, fql_typed}
-use Rattle.sq_typing.specs.Together.{all_of}
+use Rattle.sq_typing.specs.Fql.{joins, joined_spans, joined_all, proximate, few_copies, outermost, fql_typed}
+use Rattle.sq_typing.proofs.FqlEquations.{proximity_joined}
 use Rattle.sq_lower.specs.Lowered.{apply, near, lowered, lowered_each}
 use Rattle.sq_lower.proofs.CopiesLemmas.{each_of_some}
 use Rattle.sq_lower.proofs.Form.{spans, spans_each}
@@ -33,11 +32,6 @@ and_left false b both = both
 pub and_right : (a b : Bool) → (a && b) ≡ true → b ≡ true
 and_right true b both = both
 and_right false b both = absurd (false≢true both)
-
-proximity_joined : (look : Look) (at : ℕ) (o : Op) (operands : List FRaw) (parts : List (Outcome SpanTree)) → joins o ≡ true →
-    proximity look at o operands parts ≡ joined_all o (all_of parts)
-unfolding proximity
-proximity_joined look at o operands parts joining = rw joining refl
 
 module _ (schema : List Property) (look : Look) where
   joined_given : (o : Op) (raws : List FRaw) (parts : List SpanTree) → joins o ≡ true → GiveEach (proximate schema look) raws parts →

@@ -19,7 +19,7 @@ use Rattle.sq_schema.specs.Values.{number_of, is_numeral, behind_minus, yes_no_o
 use Rattle.sq_schema.specs.Words.{is_same_word}
 use Rattle.sq_tokens.specs.Pattern.{Phrase, text_phrase, without_good_star}
 use Rattle.sq_tokens.specs.Token.{text_tokens}
-use Rattle.sq_model.specs.Copies.{copies, copies_each, greatest}
+use Rattle.sq_model.specs.Copies.{copies, greatest}
 use Rattle.sq_model.specs.Kinds.{kind_of, is_text_kind, is_text_property, is_same}
 use Rattle.sq_model.specs.KqlSound.{LeafSound, LeavesSound, reads_text, is_value_test, is_value_test_of}
 use Rattle.sq_model.specs.Lists.{is_empty}
@@ -28,8 +28,7 @@ use Rattle.sq_model.specs.declared.kql.Relation.{Relation}
 use Rattle.sq_model.specs.declared.kql.Relation.TheVariants as relation
 use Rattle.sq_model.specs.declared.fql.Look.{Look}
 use Rattle.sq_model.specs.declared.fql.Look.TheVariants.{Searchable, One}
-use Rattle.sq_model.specs.declared.fql.SpanTree.{SpanTree, Row_of-SpanTree, end_of-SpanTree, more_of-SpanTree, items-the_row-SpanTree, items_hidden-the_row-SpanTree-0}
-use Rattle.sq_model.specs.declared.fql.SpanTree.TheBlock.{hidden-the_row-SpanTree-0}
+use Rattle.sq_model.specs.declared.fql.SpanTree.{SpanTree}
 use Rattle.sq_model.specs.declared.fql.SpanTree.TheVariants as s
 use Rattle.sq_model.specs.declared.fql.FTree.{FTree}
 use Rattle.sq_model.specs.declared.fql.FTree.TheVariants as f
@@ -43,12 +42,15 @@ use Rattle.sq_typing.specs.declared.codes.TheConstants.{NO_TOKEN, BAD_DATE}
 use Rattle.sq_typing.specs.FqlPlaces.{place_of, is_outside, opened, entered}
 use Rattle.sq_typing.specs.FqlTexts.{unread, leaf as leaf_with, pattern_in, leaf_in, word_in, string_spans}
 use Rattle.sq_schema.specs.Bounds.{is_from_to, is_integer_value, is_moment_value, least_number, greatest_number, least_moment, greatest_moment}
-use Rattle.sq_typing.specs.FqlNumbers.{number_or, number_in, date_in, yes_no_in, within, lower_bound, upper_bound, between}
+use Rattle.sq_typing.specs.FqlNumbers.{number_in, date_in, yes_no_in, within, lower_bound, upper_bound, between}
+use Rattle.sq_typing.specs.Numbers.{number_at}
 use Rattle.sq_typing.specs.Fql.{with_few_copies, few_copies, edge, lone, in_texts, combined_all, proximate, typed_at, fql_typed}
 use Rattle.sq_typing.specs.Together.{mapped, together, all_of}
+use Rattle.sq_typing.proofs.FqlEquations.{pattern_apply, scope_typed}
+use Rattle.sq_typing.proofs.SpanLemmas.{copies_union}
 use Rattle.sq_lower.specs.Lowered.{apply, literal, scope, negated, phrase, words, range, text_form, text_test, flag_text, number_text, value_meant, values_related, value_form, value_test}
 use Rattle.sq_lower.proofs.Form.{text_tree, meant, related, value_tree, value_tree_of}
-use Rattle.sq_lower.proofs.RawEquations.{pattern_apply, proximity_lone, proximate_lone, typed_for_all, typed_in_scope, typed_scope}
+use Rattle.sq_lower.proofs.RawEquations.{proximity_lone, proximate_lone, typed_for_all, typed_in_scope}
 
 -- ---- leaves
 
@@ -74,13 +76,6 @@ words_are [] sound = refl
 words_are (leaf ∷ rest) sound = ap₂ (together (λ y ys. y ∷ ys)) (ap (mapped s.Leaf) (leaf_is leaf sound.0)) (words_are rest sound.1)
 
 -- ---- copies
-
-copies_of_row : {m : _} (row : Row_of-SpanTree m) → copies_each row ≡ map copies (items-the_row-SpanTree m row)
-copies_of_row end_of-SpanTree = refl
-copies_of_row (more_of-SpanTree part rest) = ap (λ r. copies part ∷ r) (copies_of_row rest)
-
-pub copies_union : (parts : List SpanTree) → copies (s.Union parts) ≡ greatest (map copies parts)
-copies_union parts = ap greatest (copies_of_row (hidden-the_row-SpanTree-0 parts) ∙ ap (map copies) (items_hidden-the_row-SpanTree-0 parts))
 
 few_of_leaves : (leaves : List Leaf) → greatest (map copies (map s.Leaf leaves)) ≤ 1
 few_of_leaves [] = omega arith
@@ -149,7 +144,7 @@ Opens schema name property k = (inner : FRaw) → fql_typed schema (scope name i
 scope_opens : (schema : List Property) (property : ℕ) (row : Property) → position (has_name row.name) schema ≡ Some property → slice_get schema property ≡ Some row →
     Opens schema row.name property row.kind
 scope_opens schema property row found at_row inner =
-    typed_scope schema _ (place_of property row.kind) 0 row.name inner (scope_entered schema _ property row refl found at_row)
+    scope_typed schema _ (place_of property row.kind) 0 row.name inner (scope_entered schema _ property row refl found at_row)
 
 -- ---- restrictions of texts
 
@@ -326,7 +321,7 @@ module _ (find : NamesFindRows) (numbers : NumbersReadBack) (dates : MomentsRead
   integer_reads n h =
       let reads = numbers n (integer_fits n h) in
       record {
-        value = ap (number_or 0) reads;
+        value = ap (number_at 0) reads;
         least = other_word (signed_decimal n) (codes "min") n reads word_shape.0;
         most = other_word (signed_decimal n) (codes "max") n reads word_shape.1;
       }

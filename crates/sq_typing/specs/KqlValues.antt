@@ -1,5 +1,5 @@
 -- What a restriction asks of its property: the property's kind has the relation, and the value is one of its kind.
-use Rattle.std.specs.Prelude.{ℕ, List, Bool, true, false, if◌then◌else◌, position, Option, Some, None, option_map, option_and_then, Ok, ℤ}
+use Rattle.std.specs.Prelude.{ℕ, List, Bool, true, if◌then◌else◌, position, Option, Some, None, option_map, option_and_then, Ok, ℤ}
 use Rattle.std.specs.Option.{option_or}
 use Rattle.sq_schema.specs.declared.property.Kind.{Kind}
 use Rattle.sq_schema.specs.declared.property.Kind.TheVariants as kind
