@@ -1,6 +1,6 @@
 -- The answer of a query over what a caller sees.
 use Rattle.std.specs.Prelude.{ℕ, ◌-◌, Bool, not, ◌&&◌, ◌||◌, nat_lt, List, map, filter, take, drop, ℤ, ◌+ℤ◌, int_lt}
-use Rattle.sq_base.specs.Order.{in_order}
+use Rattle.sq_base.specs.Sorting.{in_order}
 use Rattle.sq_model.specs.Access.{Seen}
 use Rattle.sq_model.specs.declared.corpus.Value.{Value}
 use Rattle.sq_cli.specs.declared.hit.Hit.{Hit}

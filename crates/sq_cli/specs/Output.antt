@@ -6,6 +6,7 @@ use Rattle.std.specs.Io.KnownBytes.{Appends}
 use Rattle.sq_base.specs.declared.faults.QueryFault.{QueryFault}
 use Rattle.sq_schema.specs.Intervals.{clamped}
 use Rattle.sq_model.specs.declared.corpus.Corpus.{Corpus}
+use Rattle.sq_model.specs.Limits.{most_corpus_bytes}
 use Rattle.sq_corpus.specs.CorpusText.{LineFault, corpus_of}
 use Rattle.sq_cli.specs.declared.hit.Hit.{Hit}
 use Rattle.sq_cli.specs.declared.run.Reply.{Reply}
@@ -19,10 +20,7 @@ pub record Outcome : Type 0 where
   pub status : ℕ
   pub text : List ℕ
 
--- the most bytes of a corpus text, and how many hits are listed at most
-abbrev pub most_bytes : ℕ
-most_bytes = 67_108_864
-
+-- how many hits are listed at most
 abbrev pub most_listed : ℕ
 most_listed = 500
 
@@ -69,7 +67,7 @@ corpus_outcome (Lowering text) moment (Ok corpus) = lowered_outcome (lowered_of 
 -- what an order writes over the bytes of a corpus
 abbrev pub order_outcome : Order → ℤ → List ℕ → Outcome
 order_outcome order moment bytes =
-    if nat_le (length bytes) most_bytes then corpus_outcome order moment (corpus_of bytes) else record { status = 8; text = [] }
+    if nat_le (length bytes) most_corpus_bytes then corpus_outcome order moment (corpus_of bytes) else record { status = 8; text = [] }
 
 abbrev pub words_outcome : Option Order → ℤ → List ℕ → Outcome
 words_outcome None moment bytes = record { status = 2; text = [] }

@@ -4,6 +4,7 @@ ghost use Rattle.std.specs.List.{list_all};
 ghost use Rattle.std.specs.Io.KnownBytes.{Appends};
 ghost use Rattle.sq_base.specs.Causes.{Rose};
 ghost use Rattle.sq_base.specs.Bytes.{AppendsPrefix};
+ghost use Rattle.sq_model.specs.Limits.{most_corpus_bytes};
 ghost use Rattle.sq_model.specs.Valid.{has_short_texts, is_item};
 ghost use Rattle.sq_schema.specs.Intervals.{clamped as moment};
 ghost use Rattle.sq_cli.specs.Command.{order_of, plain};
@@ -141,7 +142,7 @@ fn corpus_reply(
 /// Reads the bytes of a corpus, and makes the whole reply.
 #[tactic(auto, unfolding(crate::specs::Output::corpus_outcome))]
 fn bytes_reply(alloc: Global, bytes: &[u8], command: Command, now: i64) -> Result<Reply, AllocError>
-    requires { length bytes.now ≤ 67_108_864 }
+    requires { length bytes.now ≤ most_corpus_bytes }
     ensures reply { IfOk result (IsReply (corpus_outcome (plain command.entry) now (corpus_of bytes.now))) }
     ensures status { IfOk result (λ reply. (reply.status ≤ 1) ⊎ (reply.status ≡ 3)) }
 {

@@ -3,7 +3,7 @@ use Rattle.std.proofs.Common.{◌≡◌, ℕ, ◌+◌, ◌/◌, ◌<◌, ◌≤�
 use lib.Utf8.{scalar, encode, next}
 use Rattle.std.specs.List.{list_all}
 use Rattle.std.specs.Str.{is_utf8, all_scalars}
-use Rattle.std.proofs.lemmas.Str.{IsUtf8-from_is_utf8, chars-encodes, encode_ascii, encodes-chars, scalars-chars}
+use Rattle.std.proofs.lemmas.Str.{IsUtf8-from_is_utf8, is_utf8-from_IsUtf8, chars-encodes, encode_ascii, encodes-chars, scalars-chars}
 use Rattle.std.proofs.lemmas.List.Sums.{sum_by-cons}
 use Rattle.std.proofs.lemmas.Bool.Decides.{nat_tests}
 use Rattle.sq_base.specs.Xml.{is_xml_char, is_xml_text}
@@ -153,6 +153,9 @@ clean_fields line clean =
     subst AllClean (sym (pieces_encoded clean.letters) ∙ ap (pieces 9) clean.is)
     (clean_encoded (pieces 9 clean.letters) (all_pieces scalar clean.letters (sym (all_scalar clean.letters) ∙ clean.scalar))
     (all_pieces is_xml_char clean.letters clean.xml))
+
+pub clean_utf8 : (text : List ℕ) → Clean text → is_utf8 text ≡ true
+clean_utf8 text clean = is_utf8-from_IsUtf8 text (clean.letters, (clean.scalar, clean.is))
 
 pub clean_text : (text : List ℕ) → Clean text → is_xml_text text ≡ true
 clean_text text clean =

@@ -1,5 +1,5 @@
 -- What the fields of items and values spell lies in its range.
-use Rattle.std.proofs.Common.{◌≡◌, ℕ, ◌^◌, ◌<◌, ◌≤◌, nat_le, nat_lt, Bool, true, false, cond, List, length, refl, subst, arith, Option, Some, None, option_map, Result, Ok, Err, IfSome, ℤ, pos, negsuc, neg_ℤ, ◌≤ℤ◌, int_le, unsigned_abs}
+use Rattle.std.proofs.Common.{◌≡◌, ℕ, ◌<◌, ◌≤◌, nat_le, nat_lt, Bool, true, false, cond, List, length, refl, subst, arith, Option, Some, None, option_map, Result, Ok, Err, IfSome, ℤ, pos, negsuc, neg_ℤ, ◌≤ℤ◌, int_le, unsigned_abs}
 use Rattle.std.specs.Prelude.{codes}
 use Rattle.std.specs.Str.{bytes_eq}
 use Rattle.std.proofs.lemmas.Bool.Decides.{nat_tests}
@@ -13,13 +13,15 @@ use Rattle.sq_schema.specs.Dates.{interval_of}
 use Rattle.sq_schema.specs.Moments.{IsInYears}
 use Rattle.sq_schema.specs.Values.{is_numeral, behind_minus, number_of}
 use Rattle.std.specs.Str.Parse.{starts_with_minus, digits_value}
-use Rattle.sq_schema.proofs.YearLemmas.{interval_of-within}
+use Rattle.sq_schema.specs.Bounds.{is_from_to, least_moment, greatest_moment, is_integer_value, is_moment_value}
+use Rattle.sq_schema.specs.Laws.{DatesLieInYears}
 use Rattle.sq_model.specs.declared.corpus.Content.{Content}
 use Rattle.sq_model.specs.declared.corpus.Content.TheVariants.{Words, Number, Moment, Flag}
-use Rattle.sq_model.specs.Valid.{is_from_to, is_text, has_kind, content_bytes}
+use Rattle.sq_model.specs.Limits.{least_rank, greatest_rank}
+use Rattle.sq_model.specs.Valid.{is_text, has_kind, content_bytes}
 use Rattle.sq_corpus.specs.Escapes.{text_of}
 use Rattle.sq_corpus.specs.Lines.{number_from_to, item_number, rank_of, words_of, integer_of, moment_of, flag_of, content_of}
-use Rattle.sq_corpus.proofs.CleanLemmas.{Clean, both_true, left_true, right_true, clean_text}
+use Rattle.sq_corpus.proofs.CleanLemmas.{Clean, both_true, left_true, right_true, clean_utf8, clean_text}
 use Rattle.sq_corpus.proofs.FineLemmas.{fine_text}
 use Rattle.sq_corpus.proofs.SoundLemmas.{lt_true}
 
@@ -34,8 +36,8 @@ unfolding number_from_to
 from_to first last (Ok m) n e = from_at (is_from_to first last m) first last m n refl e
 from_to first last (Err fault) n e = cc
 
-pub rank_in : (field : List ℕ) (rank : ℤ) → rank_of field ≡ Some rank → is_from_to (neg_ℤ (pos 1_000_000_000)) (pos 1_000_000_000) rank ≡ true
-rank_in field rank e = from_to (neg_ℤ (pos 1_000_000_000)) (pos 1_000_000_000) (number_of field) rank e
+pub rank_in : (field : List ℕ) (rank : ℤ) → rank_of field ≡ Some rank → is_from_to least_rank greatest_rank rank ≡ true
+rank_in field rank e = from_to least_rank greatest_rank (number_of field) rank e
 
 abs_from : (o : Option ℤ) (k : ℕ) → option_map unsigned_abs o ≡ Some k → (n : ℤ) × (o ≡ Some n) × (unsigned_abs n ≡ k)
 abs_from None k e = cc
@@ -59,42 +61,18 @@ number_in field k e =
     let from = abs_from (number_from_to (pos 1) (pos 4_294_967_294) (number_of field)) k e in
     subst ItemNumber from.2 (number_at from.0 (from_to (pos 1) (pos 4_294_967_294) (number_of field) from.0 from.1))
 
-abbrev is_64 : ℤ → Bool
-is_64 n = is_from_to (neg_ℤ (pos 9_223_372_036_854_775_808)) (pos 9_223_372_036_854_775_807) n
+fitting_at : (numeral fits : Bool) (m n : ℤ) → is_integer_value m ≡ fits → cond numeral (cond fits (Ok m) (Err Range)) (Err Shape) ≡ Ok n
+    → is_integer_value n ≡ true
+fitting_at true true m n is e = let same : m ≡ n = cc in subst (λ k. is_integer_value k ≡ true) same is
+fitting_at true false m n is e = cc
+fitting_at false fits m n is e = cc
 
-negative_64 : (size : ℕ) → size ≤ 2 ^ 63 → is_64 (neg_ℤ (pos size)) ≡ true
-negative_64 size h =
-    both_true (int_le (neg_ℤ (pos 9_223_372_036_854_775_808)) (neg_ℤ (pos size))) (int_le (neg_ℤ (pos size)) (pos 9_223_372_036_854_775_807))
-    (grind (arith, ints, h)) (grind (arith, ints, h))
-
-positive_64 : (size : ℕ) → size < 2 ^ 63 → is_64 (pos size) ≡ true
-positive_64 size h =
-    both_true (int_le (neg_ℤ (pos 9_223_372_036_854_775_808)) (pos size)) (int_le (pos size) (pos 9_223_372_036_854_775_807))
-    (grind (arith, ints, h)) (grind (arith, ints, h))
-
-signed_at : (numeral negative small smaller : Bool) (size : ℕ) (n : ℤ) → (small ≡ true → size ≤ 2 ^ 63) → (smaller ≡ true → size < 2 ^ 63)
-    → cond numeral (cond negative (cond small (Ok (neg_ℤ (pos size))) (Err Range)) (cond smaller (Ok (pos size)) (Err Range))) (Err Shape) ≡ Ok n
-    → is_64 n ≡ true
-signed_at true true true smaller size n low high e =
-    let is : neg_ℤ (pos size) ≡ n = cc in subst (λ k. is_64 k ≡ true) is (negative_64 size (low refl))
-signed_at true true false smaller size n low high e = cc
-signed_at true false small true size n low high e =
-    let is : pos size ≡ n = cc in subst (λ k. is_64 k ≡ true) is (positive_64 size (high refl))
-signed_at true false small false size n low high e = cc
-signed_at false negative small smaller size n low high e = cc
-
-by_small : (size : ℕ) → nat_le size (2 ^ 63) ≡ true → size ≤ 2 ^ 63
-by_small size e = grind (arith, nat_tests, e)
-
-by_smaller : (size : ℕ) → nat_lt size (2 ^ 63) ≡ true → size < 2 ^ 63
-by_smaller size e = grind (arith, nat_tests, e)
-
-integer_in : (field : List ℕ) (n : ℤ) → number_of field ≡ Ok n → is_64 n ≡ true
+integer_in : (field : List ℕ) (n : ℤ) → number_of field ≡ Ok n → is_integer_value n ≡ true
 unfolding number_of
 integer_in field n e =
     let size : ℕ = digits_value 10 (behind_minus field) in
-    signed_at (is_numeral (behind_minus field)) (starts_with_minus field) (nat_le size (2 ^ 63)) (nat_lt size (2 ^ 63)) size n
-    (by_small size) (by_smaller size) e
+    let m : ℤ = cond (starts_with_minus field) (neg_ℤ (pos size)) (pos size) in
+    fitting_at (is_numeral (behind_minus field)) (is_integer_value m) m n refl e
 
 -- Contents.
 
@@ -103,7 +81,7 @@ pub record GoodContent (kind : Kind) (field : List ℕ) (content : Content) : Ty
   pub bytes : content_bytes content ≤ length field
 
 pub text_good : (text : List ℕ) (n : ℕ) → Clean text → length text ≤ n → n < 67_108_864 → is_text text ≡ true
-text_good text n clean within short = both_true _ _ (clean_text text clean) (lt_true (length text) 67_108_864 (omega (arith, within, short)))
+text_good text n clean within short = both_true _ _ (both_true _ _ (clean_utf8 text clean) (clean_text text clean)) (lt_true (length text) 67_108_864 (omega (arith, within, short)))
 
 words_good : (o : Option (List ℕ)) (field : List ℕ) (content : Content) → Clean field → length field < 67_108_864
     → text_of field ≡ o → words_of o ≡ Ok content → GoodContent Text field content
@@ -120,10 +98,9 @@ integer_good (Ok n) field content spelled e =
     subst (GoodContent Integer field) is (record { good = integer_in field n spelled; bytes = omega arith })
 integer_good (Err fault) field content spelled e = cc
 
-moment_in : (n : ℤ) → (neg_ℤ (pos 62_135_596_800) ≤ℤ n) × (n ≤ℤ pos 253_402_300_799)
-    → is_from_to (neg_ℤ (pos 62_135_596_800)) (pos 253_402_300_799) n ≡ true
+moment_in : (n : ℤ) → (least_moment ≤ℤ n) × (n ≤ℤ greatest_moment) → is_moment_value n ≡ true
 moment_in n h =
-    both_true (int_le (neg_ℤ (pos 62_135_596_800)) n) (int_le n (pos 253_402_300_799)) (grind (arith, ints, h.0)) (grind (arith, ints, h.1))
+    both_true (int_le least_moment n) (int_le n greatest_moment) (grind (arith, ints, h.0)) (grind (arith, ints, h.1))
 
 moment_at : (code : ℕ) (t : Bool) (interval : Interval) (field : List ℕ) (content : Content) → IsInYears interval
     → cond t (Ok (Moment interval.first)) (Err code) ≡ Ok content → GoodContent DateTime field content
@@ -132,13 +109,13 @@ moment_at code true interval field content years e =
     subst (GoodContent DateTime field) is (record { good = moment_in interval.first years.first; bytes = omega arith })
 moment_at code false interval field content years e = cc
 
-moment_good : (o : Option Interval) (field : List ℕ) (content : Content) → interval_of field ≡ o → moment_of field o ≡ Ok content
+moment_good : (dates : DatesLieInYears) (o : Option Interval) (field : List ℕ) (content : Content) → interval_of field ≡ o → moment_of field o ≡ Ok content
     → GoodContent DateTime field content
 unfolding moment_of
-moment_good None field content spelled e = cc
-moment_good (Some interval) field content spelled e =
+moment_good dates None field content spelled e = cc
+moment_good dates (Some interval) field content spelled e =
     let P : Option Interval → Type 0 = λ o. IfSome o IsInYears in
-    moment_at 607 (nat_lt 10 (length field)) interval field content (subst P spelled (interval_of-within field)) e
+    moment_at 607 (nat_lt 10 (length field)) interval field content (subst P spelled (dates field)) e
 
 flag_at : (code : ℕ) (one two : Bool) (field : List ℕ) (content : Content) → cond one (Ok (Flag true)) (cond two (Ok (Flag false)) (Err code)) ≡ Ok content
     → GoodContent YesNo field content
@@ -152,10 +129,10 @@ flag_good : (field : List ℕ) (content : Content) → flag_of field ≡ Ok cont
 unfolding flag_of
 flag_good field content e = flag_at 607 (bytes_eq field (codes "true")) (bytes_eq field (codes "false")) field content e
 
-pub content_good : (kind : Kind) (field : List ℕ) (content : Content) → Clean field → length field < 67_108_864 → content_of kind field ≡ Ok content
+pub content_good : (dates : DatesLieInYears) (kind : Kind) (field : List ℕ) (content : Content) → Clean field → length field < 67_108_864 → content_of kind field ≡ Ok content
     → GoodContent kind field content
 unfolding content_of
-content_good Text field content clean short e = words_good (text_of field) field content clean short refl e
-content_good Integer field content clean short e = integer_good (number_of field) field content refl e
-content_good DateTime field content clean short e = moment_good (interval_of field) field content refl e
-content_good YesNo field content clean short e = flag_good field content e
+content_good dates Text field content clean short e = words_good (text_of field) field content clean short refl e
+content_good dates Integer field content clean short e = integer_good (number_of field) field content refl e
+content_good dates DateTime field content clean short e = moment_good dates (interval_of field) field content refl e
+content_good dates YesNo field content clean short e = flag_good field content e

@@ -2,19 +2,19 @@
 use Rattle.std.proofs.Common.{◌≡◌, ◌⊎◌, inl, inr, ℕ, suc, ◌+◌, ◌<◌, ◌≤◌, nat_le, nat_lt, Bool, true, false, cond, not, ◌&&◌, ◌||◌, ◌==◌, List, [], ◌∷◌, ◌++◌, append_assoc, append-nil, map, filter, length, length-append, refl, ap, sym, subst, ◌∙◌, arith, position, slice_get, Option, Some, None, option_map, option_to_list, Result, Ok, Err, ℤ, pos, neg_ℤ, int_le, unsigned_abs}
 use Rattle.std.specs.Prelude.{codes}
 use Rattle.std.specs.Fmt.{signed_decimal}
-use Rattle.std.specs.List.{list_all, AllByRecursion}
-use Rattle.std.specs.Str.{IsUtf8}
+use Rattle.std.specs.List.{list_all, flat_map}
 use Rattle.std.proofs.lemmas.Bool.Decides.{nat_tests}
 use Rattle.std.proofs.lemmas.Int.{ints}
+use Rattle.std.proofs.lemmas.List.Concat.{flat_map-cons}
 use Rattle.std.proofs.lemmas.List.Elements.{filter-append}
-use Rattle.sq_base.specs.Xml.{is_xml_text}
 use Rattle.sq_schema.specs.declared.property.Property.{Property}
-use Rattle.sq_schema.specs.Laws.{NamesFindRows, NumbersReadBack, MomentsReadBack}
+use Rattle.sq_schema.specs.Laws.{NamesFindRows, NumbersReadBack, MomentsAreWritten, MomentsReadBack}
 use Rattle.sq_schema.specs.Properties.{IsSchema, is_sound, has_name}
 use Rattle.sq_model.specs.declared.corpus.Caller.{Caller}
 use Rattle.sq_model.specs.declared.corpus.Content.{Content}
 use Rattle.sq_model.specs.declared.corpus.Item.{Item}
 use Rattle.sq_model.specs.declared.corpus.Value.{Value}
+use Rattle.sq_model.specs.Shown.{shown_text}
 use Rattle.sq_model.specs.Valid.{is_name, is_claim_list, is_from_to, is_value, is_content_of, has_kind, count_of, has_few, is_item, are_rising}
 use Rattle.sq_corpus.specs.declared.before.Before.{Before}
 use Rattle.sq_corpus.specs.declared.before.Stage.{Stage}
@@ -25,11 +25,11 @@ use Rattle.sq_corpus.specs.Escapes.{text_of}
 use Rattle.sq_corpus.specs.Lines.{may_stand, number_from_to, item_number, rank_of, is_above, item_of, with_url, with_item, list_fault, allowing, denying, if_faultless, with_allow, with_deny, content_of, value_of, holding, with_content, with_value_of, with_value, with_known, with_fields}
 use Rattle.sq_corpus.specs.Laws.{in_rows}
 use Rattle.sq_corpus.specs.Words.{line_kind}
-use Rattle.sq_corpus.specs.Written.{line, Each, is_at, values_from, spelled, IsValueText, AreRowTexts, item_line, IsItemText}
+use Rattle.sq_corpus.specs.Written.{line, is_at, values_from, spelled, value_line, row_lines, item_line, item_text}
 use Rattle.sq_corpus.proofs.CleanLemmas.{both_true, left_true, right_true}
 use Rattle.sq_corpus.proofs.SoundLemmas.{by_le, count_more, number_of_item}
 use Rattle.sq_corpus.proofs.ValidLemmas.{Parts, parts}
-use Rattle.sq_corpus.proofs.SpelledLemmas.{row_name_plain, spelled_plain, spelled_back}
+use Rattle.sq_corpus.proofs.SpelledLemmas.{row_name_plain, bare_plain, spelled_plain, spelled_back}
 use Rattle.sq_corpus.proofs.BackLemmas.{Back, content_back, number_back}
 use Rattle.sq_corpus.proofs.LeadLemmas.{Leads, leads_nil, leads_then, leads_along, leads_so, leads_line, word_plain, state}
 use Rattle.sq_corpus.proofs.RowLemmas.{not_le, good_row, sound_name, claims_plain, chosen, not_true}
@@ -156,22 +156,20 @@ list_pass claims good =
     not_more : (a b : ℕ) → b ≤ a → nat_lt a b ≡ false
     not_more a b h = grind (arith, nat_tests, h)
 
-allow_leads : (rows : List Property) (callers : List Caller) (items : List Item) (item : Item) (claims : List (List ℕ)) → AllByRecursion IsUtf8 claims
-    → is_claim_list claims ≡ true
+allow_leads : (rows : List Property) (callers : List Caller) (items : List Item) (item : Item) (claims : List (List ℕ)) → is_claim_list claims ≡ true
     → Leads (state BeforeAllow rows callers items (Some item)) (line (codes "allow") claims) (state BeforeDeny rows callers items (Some (allowing claims item)))
 unfolding with_fields line_kind with_known with_allow
-allow_leads rows callers items item claims utf8 good =
+allow_leads rows callers items item claims good =
     leads_line (state BeforeAllow rows callers items (Some item)) (codes "allow") claims (state BeforeDeny rows callers items (Some (allowing claims item)))
-    (word_plain (codes "allow") refl) (claims_plain claims utf8 (right_true (nat_le (length claims) 64) (list_all is_name claims) good))
+    (word_plain (codes "allow") refl) (claims_plain claims (right_true (nat_le (length claims) 64) (list_all is_name claims) good))
     (ap (λ fault. if_faultless fault (state BeforeDeny rows callers items (Some (allowing claims item)))) (list_pass claims good))
 
-deny_leads : (rows : List Property) (callers : List Caller) (items : List Item) (item : Item) (claims : List (List ℕ)) → AllByRecursion IsUtf8 claims
-    → is_claim_list claims ≡ true
+deny_leads : (rows : List Property) (callers : List Caller) (items : List Item) (item : Item) (claims : List (List ℕ)) → is_claim_list claims ≡ true
     → Leads (state BeforeDeny rows callers items (Some item)) (line (codes "deny") claims) (state InValues rows callers items (Some (denying claims item)))
 unfolding with_fields line_kind with_known with_deny
-deny_leads rows callers items item claims utf8 good =
+deny_leads rows callers items item claims good =
     leads_line (state BeforeDeny rows callers items (Some item)) (codes "deny") claims (state InValues rows callers items (Some (denying claims item)))
-    (word_plain (codes "deny") refl) (claims_plain claims utf8 (right_true (nat_le (length claims) 64) (list_all is_name claims) good))
+    (word_plain (codes "deny") refl) (claims_plain claims (right_true (nat_le (length claims) 64) (list_all is_name claims) good))
     (ap (λ fault. if_faultless fault (state InValues rows callers items (Some (denying claims item)))) (list_pass claims good))
 
 not_chosen : (t : Bool) (a b : Result Before ℕ) → t ≡ false → cond t a b ≡ b
@@ -191,7 +189,7 @@ rise_on : (last : Option Item) (item : Item) (rest : List Item) → rise_behind 
 rise_on None item rest rising = rising
 rise_on (Some other) item rest rising = right_true (nat_lt other.number item.number) (are_rising (item.number ∷ map number_of_item rest)) rising
 
-module _ (names : NamesFindRows) (numbers : NumbersReadBack) (moments : MomentsReadBack) (rows : List Property) (callers : List Caller) (schema : IsSchema rows) where
+module _ (names : NamesFindRows) (numbers : NumbersReadBack) (texts : MomentsAreWritten) (moments : MomentsReadBack) (rows : List Property) (callers : List Caller) (schema : IsSchema rows) where
   value_taken : (items : List Item) (item : Item) (at : ℕ) (row : Property) (content : Content) (field : List ℕ) (more : ℕ)
       → slice_get rows at ≡ Some row → Fits item.values row at (suc more) → content_of row.kind field ≡ Ok content
       → with_value (reading rows callers items item) (position (has_name row.name) rows) field
@@ -210,31 +208,31 @@ module _ (names : NamesFindRows) (numbers : NumbersReadBack) (moments : MomentsR
       ∙ two_pass 605 608 (not row.multi && nat_lt 0 (count_of item.values at)) (nat_le 1_000 (count_of item.values at))
       (Ok (reading rows callers items (holding (value_of at content) item))) (not_at row.multi (nat_lt 0 (count_of item.values at)) none) room
 
-  value_leads : (items : List Item) (item : Item) (at : ℕ) (row : Property) (value : Value) (text : List ℕ) (more : ℕ)
+  value_leads : (items : List Item) (item : Item) (at : ℕ) (row : Property) (value : Value) (more : ℕ)
       → slice_get rows at ≡ Some row → is_sound row ≡ true → Fits item.values row at (suc more) → value.property ≡ at → has_kind row.kind value.content ≡ true
-      → IsValueText row.name value text
-      → Leads (reading rows callers items item) text (reading rows callers items (holding value item))
+      → Leads (reading rows callers items item) (value_line row.name value) (reading rows callers items (holding value item))
   unfolding with_fields line_kind with_known
-  value_leads items item at row value text more here sound fits of good written =
-      let back : Back row.kind value.content written.0 = content_back numbers moments row.kind value.content written.0 good written.1 in
+  value_leads items item at row value more here sound fits of good =
+      let field : List ℕ = spelled (shown_text value.content) in
+      let back : Back row.kind value.content = content_back numbers texts moments row.kind value.content good in
       let same : value_of at value.content ≡ value = ap (λ p. value_of p value.content) (sym of) in
       let after : Before = reading rows callers items (holding value item) in
-      leads_along (reading rows callers items item) after (line (codes "value") (row.name ∷ (written.0 ∷ []))) text written.2
-      (leads_line (reading rows callers items item) (codes "value") (row.name ∷ (written.0 ∷ [])) after (word_plain (codes "value") refl)
+      leads_line (reading rows callers items item) (codes "value") (row.name ∷ (field ∷ [])) after (word_plain (codes "value") refl)
       (row_name_plain row.name (sound_name row sound), (back.plain, tt))
-      (value_taken items item at row value.content written.0 more here fits back.reads
-      ∙ ap (λ v. Ok (reading rows callers items (holding v item))) same))
+      (value_taken items item at row value.content field more here fits back.reads
+      ∙ ap (λ v. Ok (reading rows callers items (holding v item))) same)
 
   -- the values of one property
-  values_lead : (items : List Item) (item : Item) (at : ℕ) (row : Property) (values : List Value) (text : List ℕ)
+  values_lead : (items : List Item) (item : Item) (at : ℕ) (row : Property) (values : List Value)
       → slice_get rows at ≡ Some row → is_sound row ≡ true → Fits item.values row at (length values)
-      → list_all (is_at at) values ≡ true → list_all (is_value rows) values ≡ true → Each (IsValueText row.name) values text
-      → Leads (reading rows callers items item) text (reading rows callers items (with_values item (item.values ++ values)))
-  values_lead items item at row [] text here sound fits of good written =
-      leads_so (reading rows callers items item) (reading rows callers items item) (reading rows callers items (with_values item (item.values ++ []))) text
-      (ap (λ vs. reading rows callers items (with_values item vs)) (sym (append-nil item.values)))
-      (leads_along (reading rows callers items item) (reading rows callers items item) [] text written (leads_nil (reading rows callers items item)))
-  values_lead items item at row (value ∷ values) text here sound fits of good written =
+      → list_all (is_at at) values ≡ true → list_all (is_value rows) values ≡ true
+      → Leads (reading rows callers items item) (flat_map (value_line row.name) values) (reading rows callers items (with_values item (item.values ++ values)))
+  values_lead items item at row [] here sound fits of good =
+      leads_so (reading rows callers items item) (reading rows callers items item) (reading rows callers items (with_values item (item.values ++ []))) []
+      (ap (λ vs. reading rows callers items (with_values item vs)) (sym (append-nil item.values))) (leads_nil (reading rows callers items item))
+  values_lead items item at row (value ∷ values) here sound fits of good =
+      let first_line : List ℕ = value_line row.name value in
+      let other_lines : List ℕ = flat_map (value_line row.name) values in
       let first : (value.property == at) ≡ true = left_true (is_at at value) (list_all (is_at at) values) of in
       let place : value.property ≡ at = grind (arith, nat_tests, first) in
       let kind : has_kind row.kind value.content ≡ true =
@@ -243,27 +241,26 @@ module _ (names : NamesFindRows) (numbers : NumbersReadBack) (moments : MomentsR
       let start : Before = reading rows callers items item in
       let middle : Before = reading rows callers items (holding value item) in
       let after : Before = reading rows callers items (with_values item ((item.values ++ value ∷ []) ++ values)) in
-      leads_so start after (reading rows callers items (with_values item (item.values ++ value ∷ values))) text
+      leads_so start after (reading rows callers items (with_values item (item.values ++ value ∷ values))) (flat_map (value_line row.name) (value ∷ values))
       (ap (λ vs. reading rows callers items (with_values item vs)) regrouped)
-      (leads_along start after (written.0 ++ written.1) text written.4
-      (leads_then start middle after written.0 written.1
-      (value_leads items item at row value written.0 (length values) here sound fits place kind written.2)
-      (values_lead items (holding value item) at row values written.1 here sound (fits_more item.values value row at (length values) first fits)
-      (right_true (is_at at value) (list_all (is_at at) values) of) (right_true (is_value rows value) (list_all (is_value rows) values) good) written.3)))
+      (leads_along start after (first_line ++ other_lines) (flat_map (value_line row.name) (value ∷ values)) (flat_map-cons (value_line row.name) value values)
+      (leads_then start middle after first_line other_lines
+      (value_leads items item at row value (length values) here sound fits place kind)
+      (values_lead items (holding value item) at row values here sound (fits_more item.values value row at (length values) first fits)
+      (right_true (is_at at value) (list_all (is_at at) values) of) (right_true (is_value rows value) (list_all (is_value rows) values) good))))
     where
       kind_of_row : (row : Property) (value : Value) → slice_get rows value.property ≡ Some row → is_value rows value ≡ true → has_kind row.kind value.content ≡ true
       kind_of_row row value here good = let P : Option Property → Type 0 = λ o. is_content_of o value.content ≡ true in subst P here good
 
   -- the values of the rows from one on
-  rows_values_lead : (items : List Item) (item : Item) (values : List Value) (front left : List Property) (at : ℕ) (text : List ℕ)
+  rows_values_lead : (items : List Item) (item : Item) (values : List Value) (front left : List Property) (at : ℕ)
       → rows ≡ front ++ left → length front ≡ at → ((k : ℕ) → at ≤ k → count_of item.values k ≡ 0)
-      → has_few values at left ≡ true → list_all (is_value rows) values ≡ true → AreRowTexts values at left text
-      → Leads (reading rows callers items item) text (reading rows callers items (with_values item (item.values ++ values_from values at left)))
-  rows_values_lead items item values front [] at text whole place none few good written =
-      leads_so (reading rows callers items item) (reading rows callers items item) (reading rows callers items (with_values item (item.values ++ []))) text
-      (ap (λ vs. reading rows callers items (with_values item vs)) (sym (append-nil item.values)))
-      (leads_along (reading rows callers items item) (reading rows callers items item) [] text written (leads_nil (reading rows callers items item)))
-  rows_values_lead items item values front (row ∷ left) at text whole place none few good written =
+      → has_few values at left ≡ true → list_all (is_value rows) values ≡ true
+      → Leads (reading rows callers items item) (row_lines values at left) (reading rows callers items (with_values item (item.values ++ values_from values at left)))
+  rows_values_lead items item values front [] at whole place none few good =
+      leads_so (reading rows callers items item) (reading rows callers items item) (reading rows callers items (with_values item (item.values ++ []))) []
+      (ap (λ vs. reading rows callers items (with_values item vs)) (sym (append-nil item.values))) (leads_nil (reading rows callers items item))
+  rows_values_lead items item values front (row ∷ left) at whole place none few good =
       let those : List Value = filter (is_at at) values in
       let here : slice_get rows at ≡ Some row =
       ap (slice_get rows) (sym place) ∙ ap (λ all. slice_get all (length front)) whole ∙ slice_seam front row left in
@@ -275,28 +272,26 @@ module _ (names : NamesFindRows) (numbers : NumbersReadBack) (moments : MomentsR
       let start : Before = reading rows callers items item in
       let middle : Before = reading rows callers items middle_item in
       let after : Before = reading rows callers items (with_values item ((item.values ++ those) ++ values_from values (at + 1) left)) in
-      leads_so start after (reading rows callers items (with_values item (item.values ++ values_from values at (row ∷ left)))) text
+      leads_so start after (reading rows callers items (with_values item (item.values ++ values_from values at (row ∷ left)))) (row_lines values at (row ∷ left))
       (ap (λ vs. reading rows callers items (with_values item vs)) (append_assoc item.values those (values_from values (at + 1) left)))
-      (leads_along start after (written.0 ++ written.1) text written.4
-      (leads_then start middle after written.0 written.1
-      (values_lead items item at row those written.0 here sound fits (all_kept at values) (all_filter (is_value rows) (is_at at) values good) written.2)
-      (rows_values_lead items middle_item values (front ++ row ∷ []) left (at + 1) written.1
+      (leads_then start middle after (flat_map (value_line row.name) those) (row_lines values (at + 1) left)
+      (values_lead items item at row those here sound fits (all_kept at values) (all_filter (is_value rows) (is_at at) values good))
+      (rows_values_lead items middle_item values (front ++ row ∷ []) left (at + 1)
       (whole ∙ sym (append_assoc front (row ∷ []) left)) (length-append front (row ∷ []) ∙ ap (λ n. n + 1) place)
       (λ k later. none_more item.values values at k (omega (arith, later)) (none k (omega (arith, later))))
-      (right_true (nat_le (count_of values at) 1_000 && (row.multi || nat_le (count_of values at) 1)) (has_few values (at + 1) left) few) good written.3)))
+      (right_true (nat_le (count_of values at) 1_000 && (row.multi || nat_le (count_of values at) 1)) (has_few values (at + 1) left) few) good))
 
   head_leads : (stage : Stage) (items : List Item) (last : Option Item) (item : Item) → may_stand stage ItemHead ≡ true → Parts rows item
-      → IsUtf8 item.url → is_above last item.number ≡ true → length (items ++ option_to_list last) < 1_000_000
+      → is_above last item.number ≡ true → length (items ++ option_to_list last) < 1_000_000
       → Leads (state stage rows callers items last) (item_line item)
       (state BeforeAllow rows callers (items ++ option_to_list last) (Some (item_of item.number item.rank item.url)))
   unfolding with_fields line_kind with_known with_item with_url
-  head_leads stage items last item stands good utf8 above room =
+  head_leads stage items last item stands good above room =
       let before : Before = state stage rows callers items last in
       let after : Before = state BeforeAllow rows callers (items ++ option_to_list last) (Some (item_of item.number item.rank item.url)) in
-      let number = number_back numbers moments (pos 1) (pos 4_294_967_294) (pos item.number) (grind (arith, ints)) (grind (arith, ints))
+      let number = number_back numbers texts moments (pos 1) (pos 4_294_967_294) (pos item.number) (grind (arith, ints)) (grind (arith, ints))
       (number_range item.number good.low good.high) in
-      let rank = number_back numbers moments (neg_ℤ (pos 1_000_000_000)) (pos 1_000_000_000) item.rank (grind (arith, ints)) (grind (arith, ints)) good.rank in
-      let xml : is_xml_text item.url ≡ true = left_true (is_xml_text item.url) (nat_lt (length item.url) 67_108_864) good.url in
+      let rank = number_back numbers texts moments (neg_ℤ (pos 1_000_000_000)) (pos 1_000_000_000) item.rank (grind (arith, ints)) (grind (arith, ints)) good.rank in
       let is_number : item_number (signed_decimal (pos item.number)) ≡ Some item.number =
       ap (λ o. option_map unsigned_abs (number_from_to (pos 1) (pos 4_294_967_294) o)) number.1
       ∙ ap (option_map unsigned_abs) (from_to_pass (pos 1) (pos 4_294_967_294) (pos item.number) true (number_range item.number good.low good.high) refl) in
@@ -304,37 +299,37 @@ module _ (names : NamesFindRows) (numbers : NumbersReadBack) (moments : MomentsR
       ap (number_from_to (neg_ℤ (pos 1_000_000_000)) (pos 1_000_000_000)) rank.1
       ∙ from_to_pass (neg_ℤ (pos 1_000_000_000)) (pos 1_000_000_000) item.rank true good.rank refl in
       leads_line before (codes "item") (signed_decimal (pos item.number) ∷ (signed_decimal item.rank ∷ (spelled item.url ∷ []))) after
-      (word_plain (codes "item") refl) (number.0, (rank.0, (spelled_plain item.url utf8 xml, tt)))
+      (word_plain (codes "item") refl) (bare_plain (signed_decimal (pos item.number)) number.0, (bare_plain (signed_decimal item.rank) rank.0, (spelled_plain item.url good.url, tt)))
       (chosen (may_stand stage ItemHead)
       (with_item before (item_number (signed_decimal (pos item.number))) (rank_of (signed_decimal item.rank)) (text_of (spelled item.url))) (Err 602) stands
       ∙ ap (λ n. with_item before n (rank_of (signed_decimal item.rank)) (text_of (spelled item.url))) is_number
       ∙ ap (λ r. with_item before (Some item.number) r (text_of (spelled item.url))) is_rank
-      ∙ ap (λ u. with_item before (Some item.number) (Some item.rank) u) (spelled_back item.url utf8 xml)
+      ∙ ap (λ u. with_item before (Some item.number) (Some item.rank) u) (spelled_back item.url good.url)
       ∙ chosen (is_above last item.number) (with_url before item.number item.rank (Some item.url)) (Err 606) above
       ∙ not_chosen (nat_le 1_000_000 (length (items ++ option_to_list last))) (Err 608) (Ok after)
       (not_le 1_000_000 (length (items ++ option_to_list last)) room))
 
-  item_leads : (stage : Stage) (items : List Item) (last : Option Item) (item : Item) (text : List ℕ) → may_stand stage ItemHead ≡ true
-      → is_item rows item ≡ true → is_above last item.number ≡ true → length (items ++ option_to_list last) < 1_000_000 → IsItemText rows item text
-      → Leads (state stage rows callers items last) text (reading rows callers (items ++ option_to_list last) (in_rows rows item))
-  item_leads stage items last item text stands good above room written =
+  item_leads : (stage : Stage) (items : List Item) (last : Option Item) (item : Item) → may_stand stage ItemHead ≡ true
+      → is_item rows item ≡ true → is_above last item.number ≡ true → length (items ++ option_to_list last) < 1_000_000
+      → Leads (state stage rows callers items last) (item_text rows item) (reading rows callers (items ++ option_to_list last) (in_rows rows item))
+  item_leads stage items last item stands good above room =
       let p = parts rows item good in
       let done : List Item = items ++ option_to_list last in
       let head : Item = item_of item.number item.rank item.url in
       let opened : Item = denying item.deny (allowing item.allow head) in
       let start : Before = state stage rows callers items last in
       let after : Before = reading rows callers done (in_rows rows item) in
-      leads_along start after (item_line item ++ (line (codes "allow") item.allow ++ (line (codes "deny") item.deny ++ written.values))) text written.written
-      (leads_then start (state BeforeAllow rows callers done (Some head)) after (item_line item)
-      (line (codes "allow") item.allow ++ (line (codes "deny") item.deny ++ written.values))
-      (head_leads stage items last item stands p written.url above room)
+      let values : List ℕ = row_lines item.values 0 rows in
+      leads_then start (state BeforeAllow rows callers done (Some head)) after (item_line item)
+      (line (codes "allow") item.allow ++ (line (codes "deny") item.deny ++ values))
+      (head_leads stage items last item stands p above room)
       (leads_then (state BeforeAllow rows callers done (Some head)) (state BeforeDeny rows callers done (Some (allowing item.allow head))) after
-      (line (codes "allow") item.allow) (line (codes "deny") item.deny ++ written.values)
-      (allow_leads rows callers done head item.allow written.allow p.allow)
+      (line (codes "allow") item.allow) (line (codes "deny") item.deny ++ values)
+      (allow_leads rows callers done head item.allow p.allow)
       (leads_then (state BeforeDeny rows callers done (Some (allowing item.allow head))) (reading rows callers done opened) after
-      (line (codes "deny") item.deny) written.values
-      (deny_leads rows callers done (allowing item.allow head) item.deny written.deny p.deny)
-      (rows_values_lead done opened item.values [] rows 0 written.values refl refl (λ k later. refl) p.few p.values written.are))))
+      (line (codes "deny") item.deny) values
+      (deny_leads rows callers done (allowing item.allow head) item.deny p.deny)
+      (rows_values_lead done opened item.values [] rows 0 refl refl (λ k later. refl) p.few p.values)))
 
   -- where the lines of the items lead
   pub record AfterItems (stage : Stage) (items : List Item) (last : Option Item) (text : List ℕ) (all : List Item) : Type 0 where
@@ -345,25 +340,25 @@ module _ (names : NamesFindRows) (numbers : NumbersReadBack) (moments : MomentsR
     pub are : items_then ++ option_to_list last_then ≡ all
     pub leads : Leads (state stage rows callers items last) text (state stage_then rows callers items_then last_then)
 
-  pub items_lead : (stage : Stage) (items : List Item) (last : Option Item) (rest : List Item) (text : List ℕ) → may_stand stage ItemHead ≡ true
+  pub items_lead : (stage : Stage) (items : List Item) (last : Option Item) (rest : List Item) → may_stand stage ItemHead ≡ true
       → may_end stage ≡ true → list_all (is_item rows) rest ≡ true → rise_behind last rest ≡ true
-      → length (items ++ option_to_list last) + length rest ≤ 1_000_000 → Each (IsItemText rows) rest text
-      → AfterItems stage items last text ((items ++ option_to_list last) ++ map (in_rows rows) rest)
-  items_lead stage items last [] text stands ends good rising few written = record {
+      → length (items ++ option_to_list last) + length rest ≤ 1_000_000
+      → AfterItems stage items last (flat_map (item_text rows) rest) ((items ++ option_to_list last) ++ map (in_rows rows) rest)
+  items_lead stage items last [] stands ends good rising few = record {
     stage_then = stage;
     items_then = items;
     last_then = last;
     ends = ends;
     are = sym (append-nil (items ++ option_to_list last));
-    leads = leads_along (state stage rows callers items last) (state stage rows callers items last) [] text written (leads_nil (state stage rows callers items last));
+    leads = leads_nil (state stage rows callers items last);
   }
-  items_lead stage items last (item ∷ rest) text stands ends good rising few written =
+  items_lead stage items last (item ∷ rest) stands ends good rising few =
       let done : List Item = items ++ option_to_list last in
       let one : Item = in_rows rows item in
       let more : length (done ++ one ∷ []) ≡ length done + 1 = length-append done (one ∷ []) in
       let room : length done < 1_000_000 = omega (arith, few) in
-      let behind = items_lead InValues done (Some one) rest written.1 refl refl (right_true (is_item rows item) (list_all (is_item rows) rest) good)
-      (rise_on last item rest rising) (omega (arith, few, more)) written.3 in
+      let behind = items_lead InValues done (Some one) rest refl refl (right_true (is_item rows item) (list_all (is_item rows) rest) good)
+      (rise_on last item rest rising) (omega (arith, few, more)) in
       let start : Before = state stage rows callers items last in
       let after : Before = state behind.stage_then rows callers behind.items_then behind.last_then in
       record {
@@ -372,8 +367,9 @@ module _ (names : NamesFindRows) (numbers : NumbersReadBack) (moments : MomentsR
         last_then = behind.last_then;
         ends = behind.ends;
         are = behind.are ∙ append_assoc done (one ∷ []) (map (in_rows rows) rest);
-        leads = leads_along start after (written.0 ++ written.1) text written.4
-            (leads_then start (reading rows callers done one) after written.0 written.1
-            (item_leads stage items last item written.0 stands (left_true (is_item rows item) (list_all (is_item rows) rest) good) (above_last last item rest rising) room written.2)
+        leads = leads_along start after (item_text rows item ++ flat_map (item_text rows) rest) (flat_map (item_text rows) (item ∷ rest))
+            (flat_map-cons (item_text rows) item rest)
+            (leads_then start (reading rows callers done one) after (item_text rows item) (flat_map (item_text rows) rest)
+            (item_leads stage items last item stands (left_true (is_item rows item) (list_all (is_item rows) rest) good) (above_last last item rest rising) room)
             behind.leads);
       }

@@ -12,6 +12,9 @@ use Rattle.sq_corpus.specs.Lines.{with_line, with_text}
 use Rattle.sq_corpus.specs.Reads.{IsAnswer, Takes, fault_at}
 use Rattle.sq_corpus.specs.Pieces.{onto_first, pieces, lines_of}
 
+pub utf8_test : (text : List ℕ) → IsUtf8 text → is_utf8 text ≡ true
+utf8_test text utf8 = is_utf8-from_IsUtf8 text utf8
+
 pub is_utf8-false : (line : List ℕ) → ¬ (IsUtf8 line) → is_utf8 line ≡ false
 is_utf8-false line bad = false_from_ne_true (is_utf8 line) (λ t. bad (IsUtf8-from_is_utf8 line t))
 

@@ -2,7 +2,7 @@
 use Rattle.std.proofs.Common.{◌≡◌, ℕ, ◌<◌, ◌≤◌, nat_le, Bool, true, false, cond, not, ◌&&◌, ◌||◌, List, [], ◌∷◌, ◌++◌, append_assoc, append-nil, map, length, length-append, refl, ap, sym, subst, ◌∙◌, arith, slice_get, Some, None, Result, Ok, Err}
 use Rattle.std.specs.Prelude.{codes, option_and_then}
 use Rattle.std.specs.List.{list_all, list_any, flat_map, AllByRecursion}
-use Rattle.std.specs.Str.{bytes_eq, IsUtf8}
+use Rattle.std.specs.Str.{bytes_eq}
 use Rattle.std.proofs.Math.Seq.{take-append_seam, get_or-append_seam}
 use Rattle.std.proofs.lemmas.Option.{slice_get-get_or}
 use Rattle.std.proofs.lemmas.Bool.Decides.{nat_tests}
@@ -23,7 +23,7 @@ use Rattle.sq_corpus.specs.declared.words.LineKind.TheVariants.{CallerRow, ItemH
 use Rattle.sq_corpus.specs.CorpusText.{nothing_before, may_end}
 use Rattle.sq_corpus.specs.Lines.{may_stand, with_row, with_property, with_caller, is_named, with_known, with_fields}
 use Rattle.sq_corpus.specs.Words.{line_kind, kind_of, flags_of, flags}
-use Rattle.sq_corpus.specs.Written.{line, property_line, kind_word, flags_word, Each, IsCallerText}
+use Rattle.sq_corpus.specs.Written.{line, property_line, kind_word, flags_word, caller_line}
 use Rattle.sq_corpus.proofs.CleanLemmas.{left_true, right_true}
 use Rattle.sq_corpus.proofs.SoundLemmas.{name_of, left_false, right_false}
 use Rattle.sq_corpus.proofs.PlainLemmas.{Plain}
@@ -172,11 +172,11 @@ new_name (c ∷ done) caller rest different =
     or_false true b p q = p
     or_false false b p q = q
 
-pub claims_plain : (claims : List (List ℕ)) → AllByRecursion IsUtf8 claims → list_all is_name claims ≡ true → AllByRecursion Plain claims
-claims_plain [] utf8 good = tt
-claims_plain (claim ∷ claims) utf8 good = (
-  name_plain claim utf8.0 (left_true (is_name claim) (list_all is_name claims) good),
-  claims_plain claims utf8.1 (right_true (is_name claim) (list_all is_name claims) good),
+pub claims_plain : (claims : List (List ℕ)) → list_all is_name claims ≡ true → AllByRecursion Plain claims
+claims_plain [] good = tt
+claims_plain (claim ∷ claims) good = (
+  name_plain claim (left_true (is_name claim) (list_all is_name claims) good),
+  claims_plain claims (right_true (is_name claim) (list_all is_name claims) good),
 )
 
 pub chosen : (t : Bool) (a b : Result Before ℕ) → t ≡ true → cond t a b ≡ a
@@ -191,18 +191,17 @@ caller_taken stage rows done caller good free room =
     three_pass 605 607 608 (list_any (is_named caller.name) done) (not (is_name caller.name && list_all is_name caller.claims)) (nat_le 10_000 (length done))
     (Ok (state InCallers rows (done ++ caller ∷ []) [] None)) free (not_true (is_name caller.name && list_all is_name caller.claims) good) (not_le 10_000 (length done) room)
 
-caller_leads : (stage : Stage) (rows : List Property) (done : List Caller) (caller : Caller) (text : List ℕ) → Opens stage → is_caller caller ≡ true
-    → list_any (is_named caller.name) done ≡ false → length done < 10_000 → IsCallerText caller text
-    → Leads (state stage rows done [] None) text (state InCallers rows (done ++ caller ∷ []) [] None)
+caller_leads : (stage : Stage) (rows : List Property) (done : List Caller) (caller : Caller) → Opens stage → is_caller caller ≡ true
+    → list_any (is_named caller.name) done ≡ false → length done < 10_000
+    → Leads (state stage rows done [] None) (caller_line caller) (state InCallers rows (done ++ caller ∷ []) [] None)
 unfolding with_fields line_kind with_known
-caller_leads stage rows done caller text opens good free room written =
+caller_leads stage rows done caller opens good free room =
     let name = left_true (is_name caller.name) (list_all is_name caller.claims) good in
     let claims = right_true (is_name caller.name) (list_all is_name caller.claims) good in
-    leads_along (state stage rows done [] None) (state InCallers rows (done ++ caller ∷ []) [] None) (line (codes "caller") (caller.name ∷ caller.claims)) text written.2
-    (leads_line (state stage rows done [] None) (codes "caller") (caller.name ∷ caller.claims) (state InCallers rows (done ++ caller ∷ []) [] None)
-    (word_plain (codes "caller") refl) (name_plain caller.name written.0 name, claims_plain caller.claims written.1 claims)
+    leads_line (state stage rows done [] None) (codes "caller") (caller.name ∷ caller.claims) (state InCallers rows (done ++ caller ∷ []) [] None)
+    (word_plain (codes "caller") refl) (name_plain caller.name name, claims_plain caller.claims claims)
     (chosen (may_stand stage CallerRow) (with_caller (state stage rows done [] None) caller.name caller.claims) (Err 602) opens.caller
-    ∙ caller_taken stage rows done caller good free room))
+    ∙ caller_taken stage rows done caller good free room)
 
 -- where the callers' lines lead
 pub record AfterCallers (stage : Stage) (rows : List Property) (done : List Caller) (text : List ℕ) (all : List Caller) : Type 0 where
@@ -210,31 +209,31 @@ pub record AfterCallers (stage : Stage) (rows : List Property) (done : List Call
   pub opens : Opens last
   pub leads : Leads (state stage rows done [] None) text (state last rows all [] None)
 
-pub callers_lead : (stage : Stage) (rows : List Property) (done rest : List Caller) (text : List ℕ) → Opens stage → list_all is_caller rest ≡ true
-    → are_different (map name_of (done ++ rest)) ≡ true → length (done ++ rest) ≤ 10_000 → Each IsCallerText rest text
-    → AfterCallers stage rows done text (done ++ rest)
-callers_lead stage rows done [] text opens good different few written = record {
+pub callers_lead : (stage : Stage) (rows : List Property) (done rest : List Caller) → Opens stage → list_all is_caller rest ≡ true
+    → are_different (map name_of (done ++ rest)) ≡ true → length (done ++ rest) ≤ 10_000
+    → AfterCallers stage rows done (flat_map caller_line rest) (done ++ rest)
+callers_lead stage rows done [] opens good different few = record {
   last = stage;
   opens = opens;
-  leads = leads_so (state stage rows done [] None) (state stage rows done [] None) (state stage rows (done ++ []) [] None) text
-      (ap (λ callers. state stage rows callers [] None) (sym (append-nil done)))
-      (leads_along (state stage rows done [] None) (state stage rows done [] None) [] text written (leads_nil (state stage rows done [] None)));
+  leads = leads_so (state stage rows done [] None) (state stage rows done [] None) (state stage rows (done ++ []) [] None) []
+      (ap (λ callers. state stage rows callers [] None) (sym (append-nil done))) (leads_nil (state stage rows done [] None));
 }
-callers_lead stage rows done (caller ∷ rest) text opens good different few written =
+callers_lead stage rows done (caller ∷ rest) opens good different few =
     let regrouped : (done ++ caller ∷ []) ++ rest ≡ done ++ caller ∷ rest = append_assoc done (caller ∷ []) rest in
     let different_so = subst (λ callers. are_different (map name_of callers) ≡ true) (sym regrouped) different in
     let few_so = subst (λ callers. length callers ≤ 10_000) (sym regrouped) few in
-    let behind = callers_lead InCallers rows (done ++ caller ∷ []) rest written.1 opens_callers
-    (right_true (is_caller caller) (list_all is_caller rest) good) different_so few_so written.3 in
+    let behind = callers_lead InCallers rows (done ++ caller ∷ []) rest opens_callers
+    (right_true (is_caller caller) (list_all is_caller rest) good) different_so few_so in
     let room : length done < 10_000 = omega (arith, few, length-append done (caller ∷ rest)) in
     record {
       last = behind.last;
       opens = behind.opens;
-      leads = leads_so (state stage rows done [] None) (state behind.last rows ((done ++ caller ∷ []) ++ rest) [] None) (state behind.last rows (done ++ caller ∷ rest) [] None) text
+      leads = leads_so (state stage rows done [] None) (state behind.last rows ((done ++ caller ∷ []) ++ rest) [] None) (state behind.last rows (done ++ caller ∷ rest) [] None) (flat_map caller_line (caller ∷ rest))
           (ap (λ callers. state behind.last rows callers [] None) regrouped)
-          (leads_along (state stage rows done [] None) (state behind.last rows ((done ++ caller ∷ []) ++ rest) [] None) (written.0 ++ written.1) text written.4
+          (leads_along (state stage rows done [] None) (state behind.last rows ((done ++ caller ∷ []) ++ rest) [] None) (caller_line caller ++ flat_map caller_line rest)
+          (flat_map caller_line (caller ∷ rest)) (flat_map-cons caller_line caller rest)
           (leads_then (state stage rows done [] None) (state InCallers rows (done ++ caller ∷ []) [] None) (state behind.last rows ((done ++ caller ∷ []) ++ rest) [] None)
-          written.0 written.1
-          (caller_leads stage rows done caller written.0 opens (left_true (is_caller caller) (list_all is_caller rest) good) (new_name done caller rest different) room written.2)
+          (caller_line caller) (flat_map caller_line rest)
+          (caller_leads stage rows done caller opens (left_true (is_caller caller) (list_all is_caller rest) good) (new_name done caller rest different) room)
           behind.leads));
     }

@@ -11,6 +11,7 @@ use Rattle.sq_schema.specs.declared.property.Property.{Property}
 use Rattle.sq_model.specs.declared.corpus.Caller.{Caller}
 use Rattle.sq_model.specs.declared.corpus.Item.{Item}
 use Rattle.sq_model.specs.declared.corpus.Value.{Value}
+use Rattle.sq_schema.specs.Properties.{IsSchema}
 use Rattle.sq_model.specs.Valid.{is_caller, is_item, are_rising, are_different, item_bytes, count_of, has_few}
 use Rattle.sq_corpus.specs.declared.before.Before.{Before}
 use Rattle.sq_corpus.specs.declared.before.Stage.{Stage}
@@ -50,6 +51,7 @@ is_early InValues = false
 
 -- the lines before, of so many bytes, are those of a valid corpus
 pub record Sound (before : Before) (read : ℕ) : Type 0 where
+  pub schema : IsSchema before.rows
   pub few_callers : length before.callers ≤ 10_000
   pub callers : list_all is_caller before.callers ≡ true
   pub names : are_different (map name_of before.callers) ≡ true
@@ -155,6 +157,7 @@ pub changed : (before : Before) (stage : Stage) (f : Item → Item) (n m : ℕ) 
     → ((item : Item) → item_bytes (f item) ≤ item_bytes item + m)
     → Sound (record before { stage = stage; item = option_map f before.item }) (n + m)
 changed before stage f n m sound none keeps good more = record {
+  schema = sound.schema;
   few_callers = sound.few_callers;
   callers = sound.callers;
   names = sound.names;

@@ -6,16 +6,16 @@ use Rattle.std.proofs.lemmas.List.Folds.{list_all-append}
 use Rattle.std.proofs.lemmas.List.Sums.{sum_by_push}
 use Rattle.sq_base.specs.Xml.{is_xml_text}
 use Rattle.sq_schema.specs.declared.property.Kind.{Kind}
-use Rattle.sq_schema.specs.declared.property.Kind.TheVariants.{Text}
 use Rattle.sq_schema.specs.declared.property.Property.{Property}
-use Rattle.sq_schema.specs.Properties.{has_name}
+use Rattle.sq_schema.specs.Laws.{DatesLieInYears}
+use Rattle.sq_schema.specs.Properties.{is_sound, has_name}
 use Rattle.sq_model.specs.declared.corpus.Caller.{Caller}
 use Rattle.sq_model.specs.declared.corpus.Content.{Content}
-use Rattle.sq_model.specs.declared.corpus.Content.TheVariants.{Words, Number, Moment, Flag}
 use Rattle.sq_model.specs.declared.corpus.Corpus.{Corpus}
 use Rattle.sq_model.specs.declared.corpus.Item.{Item}
 use Rattle.sq_model.specs.declared.corpus.Value.{Value}
-use Rattle.sq_model.specs.Valid.{is_name, is_text, is_claim_list, is_from_to, is_value, is_caller, count_of, has_few, is_item, content_bytes, item_bytes, is_content_of, has_kind, is_short, has_short_texts, IsValid}
+use Rattle.sq_model.specs.Laws.{ValidTextsAreShort}
+use Rattle.sq_model.specs.Valid.{is_name, is_text, is_claim_list, is_from_to, is_value, is_caller, count_of, has_few, is_item, content_bytes, item_bytes, has_short_texts, IsValid}
 use Rattle.sq_corpus.specs.declared.before.Before.{Before}
 use Rattle.sq_corpus.specs.declared.before.Stage.{Stage}
 use Rattle.sq_corpus.specs.declared.before.Stage.TheVariants.{Start, InProperties, InCallers, BeforeAllow, BeforeDeny, InValues}
@@ -27,12 +27,14 @@ use Rattle.sq_corpus.specs.Escapes.{text_of}
 use Rattle.sq_corpus.specs.Lines.{may_stand, row_of, with_row, with_property, caller_of, with_caller, item_number, rank_of, is_above, item_of, items_of, with_url, with_item, list_fault, allowing, denying, if_faultless, allowed, denied, with_allow, with_deny, content_of, values_of, value_of, holding, held, with_content, with_value_of, with_value, with_known, with_fields, at_most_607, with_text, with_line}
 use Rattle.sq_corpus.specs.Pieces.{fields_of, lines_of}
 use Rattle.sq_corpus.specs.declared.fault.CorpusFault.{CorpusFault}
+use Rattle.sq_corpus.specs.Laws.{SpelledCorporaAreValid}
 use Rattle.sq_corpus.specs.Reads.{IsAnswer, Reads}
 use Rattle.sq_corpus.specs.Words.{line_kind, kind_of, flags_of}
 use Rattle.sq_corpus.proofs.CleanLemmas.{AllClean, Clean, both_true, left_true, right_true, clean_line, clean_fields, total, total_pieces, sum_total}
 use Rattle.sq_corpus.proofs.ContentLemmas.{ItemNumber, number_in, rank_in, GoodContent, content_good, text_good}
 use Rattle.sq_corpus.proofs.FineLemmas.{fine_text}
 use Rattle.sq_corpus.proofs.LineLemmas.{after_line, step-end}
+use Rattle.sq_corpus.proofs.SchemaLemmas as schemas
 use Rattle.sq_corpus.proofs.SoundLemmas.{Sound, Room, by_not_le, by_not_lt, le_true, is_early, different_more, numbers_more, changed, few_more, few_none}
 
 never : false ≡ true → ⊥
@@ -159,6 +161,7 @@ row_sound before row after n sound early e =
     let tests = three 602 605 608 _ _ _ (record before { rows = before.rows ++ row ∷ [] }) after e in
     let empty = no_items before.items before.item (sound.early early) (sound.begun (sound.early early)) in
     sound_along _ after n tests.3 (record {
+      schema = schemas.sound_more before.rows row sound.schema (not_false (is_sound row) tests.0) tests.1 (by_not_le 64 (length before.rows) tests.2);
       few_callers = sound.few_callers;
       callers = sound.callers;
       names = sound.names;
@@ -186,6 +189,7 @@ caller_sound before name claims after n sound early e =
     let good = not_false (is_name name && list_all is_name claims) tests.1 in
     let few = by_not_le 10_000 (length before.callers) tests.2 in
     sound_along _ after n tests.3 (record {
+      schema = sound.schema;
       few_callers = omega (arith, length-append before.callers (caller_of name claims ∷ []), few);
       callers = list_all-append is_caller before.callers (caller_of name claims ∷ []) ∙ both_true _ _ sound.callers (both_true _ _ good refl);
       names = different_more before.callers (caller_of name claims) sound.names tests.0;
@@ -221,6 +225,7 @@ url_sound before number rank (Some url) after n m sound numbered ranked texts ab
       few = few_none 0 before.rows;
     }) in
     sound_along _ after (n + m) tests.1 (record {
+      schema = sound.schema;
       few_callers = sound.few_callers;
       callers = sound.callers;
       names = sound.names;
@@ -332,25 +337,26 @@ content_sound before property row field (Ok content) after n m sound found conte
     }))
     (λ item. omega (arith, sum_by_push (λ v. content_bytes v.content) item.values (value_of property content), good.bytes, within)))
 
-value_of_sound : (before : Before) (property : ℕ) (o : Option Property) (field : List ℕ) (after : Before) (n m : ℕ) → Sound before n
+value_of_sound : (dates : DatesLieInYears) (before : Before) (property : ℕ) (o : Option Property) (field : List ℕ) (after : Before) (n m : ℕ) → Sound before n
     → slice_get before.rows property ≡ o → Clean field → length field ≤ m → m < 67_108_864
     → with_value_of before property o field ≡ Ok after → Sound after (n + m)
 unfolding with_value_of
-value_of_sound before property None field after n m sound found clean within short e = cc
-value_of_sound before property (Some row) field after n m sound found clean within short e =
+value_of_sound dates before property None field after n m sound found clean within short e = cc
+value_of_sound dates before property (Some row) field after n m sound found clean within short e =
     let less : length field < 67_108_864 = omega (arith, within, short) in
     content_sound before property row field (content_of row.kind field) after n m sound found
-    (λ content given. content_good row.kind field content clean less given) within e
+    (λ content given. content_good dates row.kind field content clean less given) within e
 
-value_sound : (before : Before) (o : Option ℕ) (field : List ℕ) (after : Before) (n m : ℕ) → Sound before n → Clean field → length field ≤ m
+value_sound : (dates : DatesLieInYears) (before : Before) (o : Option ℕ) (field : List ℕ) (after : Before) (n m : ℕ) → Sound before n → Clean field → length field ≤ m
     → m < 67_108_864 → with_value before o field ≡ Ok after → Sound after (n + m)
 unfolding with_value
-value_sound before None field after n m sound clean within short e = cc
-value_sound before (Some property) field after n m sound clean within short e =
-    value_of_sound before property (slice_get before.rows property) field after n m sound refl clean within short e
+value_sound dates before None field after n m sound clean within short e = cc
+value_sound dates before (Some property) field after n m sound clean within short e =
+    value_of_sound dates before property (slice_get before.rows property) field after n m sound refl clean within short e
 
 pub sound_more : (before : Before) (n m : ℕ) → Sound before n → Sound before (n + m)
 sound_more before n m sound = record {
+  schema = sound.schema;
   few_callers = sound.few_callers;
   callers = sound.callers;
   names = sound.names;
@@ -388,6 +394,7 @@ early_heading InValues e = e
 
 heading_sound : (before after : Before) (n : ℕ) → Sound before n → is_early before.stage ≡ true → record before { stage = InProperties } ≡ after → Sound after n
 heading_sound before after n sound early e = sound_along _ after n e (record {
+  schema = sound.schema;
   few_callers = sound.few_callers;
   callers = sound.callers;
   names = sound.names;
@@ -405,25 +412,25 @@ as_taken after = Ok after
 same_after : (x after : Before) → as_taken x ≡ as_taken after → x ≡ after
 same_after x after e = cc
 
-known_sound : (before : Before) (kind : LineKind) (fields : List (List ℕ)) (after : Before) (n m : ℕ) → Sound before n → may_stand before.stage kind ≡ true
+known_sound : (dates : DatesLieInYears) (before : Before) (kind : LineKind) (fields : List (List ℕ)) (after : Before) (n m : ℕ) → Sound before n → may_stand before.stage kind ≡ true
     → AllClean fields → total fields ≤ m → m < 67_108_864 → with_known before kind fields ≡ Ok after → Sound after (n + m)
 unfolding with_known
-known_sound before Heading [] after n m sound stands clean within short e =
+known_sound dates before Heading [] after n m sound stands clean within short e =
     sound_more after n m (heading_sound before after n sound (early_heading before.stage stands) (same_after _ after e))
-known_sound before Heading (a ∷ rest) after n m sound stands clean within short e = cc
-known_sound before PropertyRow [] after n m sound stands clean within short e = cc
-known_sound before PropertyRow (a ∷ []) after n m sound stands clean within short e = cc
-known_sound before PropertyRow (a ∷ (b ∷ [])) after n m sound stands clean within short e = cc
-known_sound before PropertyRow (a ∷ (b ∷ (c ∷ []))) after n m sound stands clean within short e =
+known_sound dates before Heading (a ∷ rest) after n m sound stands clean within short e = cc
+known_sound dates before PropertyRow [] after n m sound stands clean within short e = cc
+known_sound dates before PropertyRow (a ∷ []) after n m sound stands clean within short e = cc
+known_sound dates before PropertyRow (a ∷ (b ∷ [])) after n m sound stands clean within short e = cc
+known_sound dates before PropertyRow (a ∷ (b ∷ (c ∷ []))) after n m sound stands clean within short e =
     sound_more after n m (property_sound before a (kind_of b) (flags_of c) after n sound (early_property before.stage stands) e)
-known_sound before PropertyRow (a ∷ (b ∷ (c ∷ (d ∷ rest)))) after n m sound stands clean within short e = cc
-known_sound before CallerRow [] after n m sound stands clean within short e = cc
-known_sound before CallerRow (name ∷ claims) after n m sound stands clean within short e =
+known_sound dates before PropertyRow (a ∷ (b ∷ (c ∷ (d ∷ rest)))) after n m sound stands clean within short e = cc
+known_sound dates before CallerRow [] after n m sound stands clean within short e = cc
+known_sound dates before CallerRow (name ∷ claims) after n m sound stands clean within short e =
     sound_more after n m (caller_sound before name claims after n sound (early_caller before.stage stands) e)
-known_sound before ItemHead [] after n m sound stands clean within short e = cc
-known_sound before ItemHead (a ∷ []) after n m sound stands clean within short e = cc
-known_sound before ItemHead (a ∷ (b ∷ [])) after n m sound stands clean within short e = cc
-known_sound before ItemHead (a ∷ (b ∷ (c ∷ []))) after n m sound stands clean within short e =
+known_sound dates before ItemHead [] after n m sound stands clean within short e = cc
+known_sound dates before ItemHead (a ∷ []) after n m sound stands clean within short e = cc
+known_sound dates before ItemHead (a ∷ (b ∷ [])) after n m sound stands clean within short e = cc
+known_sound dates before ItemHead (a ∷ (b ∷ (c ∷ []))) after n m sound stands clean within short e =
     let fits : length c ≤ m = omega (arith, within) in
     item_sound before (item_number a) (rank_of b) (text_of c) after n m sound (number_in a) (rank_in b)
     (λ text spelled.
@@ -431,34 +438,35 @@ known_sound before ItemHead (a ∷ (b ∷ (c ∷ []))) after n m sound stands cl
     let short_text : length text ≤ m = omega (arith, fine.short, fits) in
     (text_good text m fine.clean short_text short, short_text))
     e
-known_sound before ItemHead (a ∷ (b ∷ (c ∷ (d ∷ rest)))) after n m sound stands clean within short e = cc
-known_sound before AllowList claims after n m sound stands clean within short e = allow_sound before claims after n m sound within e
-known_sound before DenyList claims after n m sound stands clean within short e = deny_sound before claims after n m sound within e
-known_sound before ValueRow [] after n m sound stands clean within short e = cc
-known_sound before ValueRow (a ∷ []) after n m sound stands clean within short e = cc
-known_sound before ValueRow (a ∷ (b ∷ [])) after n m sound stands clean within short e =
-    value_sound before (position (has_name a) before.rows) b after n m sound clean.1.0 (omega (arith, within)) short e
-known_sound before ValueRow (a ∷ (b ∷ (c ∷ rest))) after n m sound stands clean within short e = cc
-known_sound before Unknown fields after n m sound stands clean within short e = cc
+known_sound dates before ItemHead (a ∷ (b ∷ (c ∷ (d ∷ rest)))) after n m sound stands clean within short e = cc
+known_sound dates before AllowList claims after n m sound stands clean within short e = allow_sound before claims after n m sound within e
+known_sound dates before DenyList claims after n m sound stands clean within short e = deny_sound before claims after n m sound within e
+known_sound dates before ValueRow [] after n m sound stands clean within short e = cc
+known_sound dates before ValueRow (a ∷ []) after n m sound stands clean within short e = cc
+known_sound dates before ValueRow (a ∷ (b ∷ [])) after n m sound stands clean within short e =
+    value_sound dates before (position (has_name a) before.rows) b after n m sound clean.1.0 (omega (arith, within)) short e
+known_sound dates before ValueRow (a ∷ (b ∷ (c ∷ rest))) after n m sound stands clean within short e = cc
+known_sound dates before Unknown fields after n m sound stands clean within short e = cc
 
-fields_sound : (before : Before) (fields : List (List ℕ)) (after : Before) (n m : ℕ) → Sound before n
+fields_sound : (dates : DatesLieInYears) (before : Before) (fields : List (List ℕ)) (after : Before) (n m : ℕ) → Sound before n
     → AllClean fields → total fields + length fields ≤ m + 1 → m < 67_108_864 → with_fields before fields ≡ Ok after → Sound after (n + m)
 unfolding with_fields
-fields_sound before [] after n m sound clean within short e = cc
-fields_sound before (word ∷ fields) after n m sound clean within short e =
+fields_sound dates before [] after n m sound clean within short e = cc
+fields_sound dates before (word ∷ fields) after n m sound clean within short e =
     let tests = then_taken 602 (may_stand before.stage (line_kind word)) (with_known before (line_kind word) fields) after e in
-    known_sound before (line_kind word) fields after n m sound tests.0 clean.1 (omega (arith, within)) short tests.1
+    known_sound dates before (line_kind word) fields after n m sound tests.0 clean.1 (omega (arith, within)) short tests.1
 
-line_sound : (before : Before) (line : List ℕ) (after : Before) (n : ℕ) → Sound before n → length line < 67_108_864
+line_sound : (dates : DatesLieInYears) (before : Before) (line : List ℕ) (after : Before) (n : ℕ) → Sound before n → length line < 67_108_864
     → with_line before line ≡ Ok after → Sound after (n + length line)
 unfolding with_line
-line_sound before line after n sound short e =
+line_sound dates before line after n sound short e =
     let utf8 = then_taken 601 (is_utf8 line) (with_text before line) after e in
     let xml = clean_at (is_xml_text line) (with_fields before (fields_of line)) after utf8.1 in
-    fields_sound before (fields_of line) after n (length line) sound (clean_fields line (clean_line line utf8.0 xml.0)) (total_pieces 9 line) short xml.1
+    fields_sound dates before (fields_of line) after n (length line) sound (clean_fields line (clean_line line utf8.0 xml.0)) (total_pieces 9 line) short xml.1
 
 valid_after : (before : Before) (n : ℕ) → Sound before n → n ≤ 67_108_864 → IsValid (corpus_after before)
 valid_after before n sound within = record {
+  schema = sound.schema;
   few_callers = sound.few_callers;
   callers = sound.callers;
   names = sound.names;
@@ -487,17 +495,18 @@ taken_from : (taken : Result Before ℕ) (number : ℕ) (lines : List (List ℕ)
 taken_from (Ok after) number lines corpus e = (after, refl, e)
 taken_from (Err code) number lines corpus e = cc
 
-lines_valid : (lines : List (List ℕ)) (number : ℕ) (before : Before) (corpus : Corpus) (n : ℕ) → Sound before n → n + (total lines + length lines) ≤ 67_108_865
+lines_valid : (dates : DatesLieInYears) (lines : List (List ℕ)) (number : ℕ) (before : Before) (corpus : Corpus) (n : ℕ) → Sound before n → n + (total lines + length lines) ≤ 67_108_865
     → corpus_from number before lines ≡ Ok corpus → IsValid corpus
-lines_valid [] number before corpus n sound within e = cc
-lines_valid (rest ∷ []) number before corpus n sound within e = end_valid number before rest corpus n sound (omega (arith, within)) e
-lines_valid (line ∷ (next ∷ rest)) number before corpus n sound within e =
+lines_valid dates [] number before corpus n sound within e = cc
+lines_valid dates (rest ∷ []) number before corpus n sound within e = end_valid number before rest corpus n sound (omega (arith, within)) e
+lines_valid dates (line ∷ (next ∷ rest)) number before corpus n sound within e =
     let from = taken_from (with_line before line) number (next ∷ rest) corpus e in
-    lines_valid (next ∷ rest) (number + 1) from.0 corpus (n + length line)
-    (line_sound before line from.0 n sound (omega (arith, within)) from.1) (omega (arith, within)) from.2
+    lines_valid dates (next ∷ rest) (number + 1) from.0 corpus (n + length line)
+    (line_sound dates before line from.0 n sound (omega (arith, within)) from.1) (omega (arith, within)) from.2
 
 nothing_sound : Sound nothing_before 0
 nothing_sound = record {
+  schema = record { few = omega arith; faultless = λ i within. absurd (omega (arith, within)) };
   few_callers = omega arith;
   callers = refl;
   names = refl;
@@ -509,46 +518,21 @@ nothing_sound = record {
   begun = λ _. refl;
 }
 
-pub corpus_valid : (bytes : List ℕ) (corpus : Corpus) → length bytes ≤ 67_108_864 → corpus_of bytes ≡ Ok corpus → IsValid corpus
+pub corpus_valid : DatesLieInYears → SpelledCorporaAreValid
 unfolding corpus_of
-corpus_valid bytes corpus within e =
-    lines_valid (lines_of bytes) 1 nothing_before corpus 0 nothing_sound (omega (arith, total_pieces 10 bytes, within)) e
-
--- Texts are short in a valid corpus.
-
-short_content : (kind : Kind) (content : Content) → has_kind kind content ≡ true → is_short content ≡ true
-short_content Text (Words text) good = right_true (is_xml_text text) (nat_lt (length text) 67_108_864) good
-short_content kind (Words text) good = cc
-short_content kind (Number n) good = refl
-short_content kind (Moment n) good = refl
-short_content kind (Flag b) good = refl
-
-short_value : (o : Option Property) (content : Content) → is_content_of o content ≡ true → is_short content ≡ true
-short_value None content good = cc
-short_value (Some row) content good = short_content row.kind content good
-
-short_values : (rows : List Property) (values : List Value) → list_all (is_value rows) values ≡ true → list_all (λ value. is_short value.content) values ≡ true
-short_values rows [] good = refl
-short_values rows (value ∷ values) good =
-    both_true _ _ (short_value (slice_get rows value.property) value.content (left_true (is_value rows value) (list_all (is_value rows) values) good))
-    (short_values rows values (right_true (is_value rows value) (list_all (is_value rows) values) good))
-
-short_items : (rows : List Property) (items : List Item) → list_all (is_item rows) items ≡ true → list_all has_short_texts items ≡ true
-short_items rows [] good = refl
-short_items rows (item ∷ items) good =
-    both_true _ _ (short_values rows item.values (parts rows item (left_true (is_item rows item) (list_all (is_item rows) items) good)).values)
-    (short_items rows items (right_true (is_item rows item) (list_all (is_item rows) items) good))
+corpus_valid dates bytes corpus within e =
+    lines_valid dates (lines_of bytes) 1 nothing_before corpus 0 nothing_sound (omega (arith, total_pieces 10 bytes, within)) e
 
 -- What a reader answers is valid, since it is what the text spells.
 
-pub answer_valid : (bytes : List ℕ) (result : Result Corpus CorpusFault) → length bytes ≤ 67_108_864 → Reads bytes result → IfOk result IsValid
-answer_valid bytes (Ok corpus) within reads = corpus_valid bytes corpus within reads
-answer_valid bytes (Err fault) within reads = tt
+pub answer_valid : SpelledCorporaAreValid → (bytes : List ℕ) (result : Result Corpus CorpusFault) → length bytes ≤ 67_108_864 → Reads bytes result
+    → IfOk result IsValid
+answer_valid law bytes (Ok corpus) within reads = law bytes corpus within reads
+answer_valid law bytes (Err fault) within reads = tt
 
-pub answer_short : (bytes : List ℕ) (result : Result Corpus CorpusFault) → length bytes ≤ 67_108_864 → Reads bytes result
-    → IfOk result (λ corpus. list_all has_short_texts corpus.items ≡ true)
-answer_short bytes (Ok corpus) within reads = short_items corpus.schema corpus.items (corpus_valid bytes corpus within reads).items
-answer_short bytes (Err fault) within reads = tt
+pub answer_short : ValidTextsAreShort → (result : Result Corpus CorpusFault) → IfOk result IsValid → IfOk result (λ corpus. list_all has_short_texts corpus.items ≡ true)
+answer_short law (Ok corpus) valid = law corpus valid
+answer_short law (Err fault) valid = tt
 
 -- what is answered at the end of the text is what the whole text spells
 pub reads_end : (number : ℕ) (before : Before) (rest bytes : List ℕ) (result : Result Corpus CorpusFault)

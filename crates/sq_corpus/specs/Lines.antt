@@ -1,7 +1,7 @@
 -- What stands after each line of a corpus text, or the lowest code of the line: 601 it isn't UTF-8, 602 it isn't of its form or
 -- may not stand there, 603 a number is bad, 604 the property is unknown, 605 a name or a value is repeated, 606 the item's number
 -- isn't above the one before, 607 a field is bad, 608 there are too many of its kind.
-use Rattle.std.specs.Prelude.{ℕ, min, nat_lt, nat_le, Bool, true, false, not, ◌&&◌, if◌then◌else◌, List, [], ◌∷◌, ◌++◌, length, position, slice_get, codes, Option, Some, None, option_map, option_to_list, Result, Ok, Err, ℤ, pos, neg_ℤ, unsigned_abs}
+use Rattle.std.specs.Prelude.{ℕ, min, nat_lt, nat_le, Bool, true, false, not, ◌&&◌, if◌then◌else◌, List, [], ◌∷◌, ◌++◌, length, position, slice_get, codes, Option, Some, None, option_map, option_to_list, Result, Ok, Err, ℤ, pos, unsigned_abs}
 use Rattle.std.specs.List.{list_all, list_any}
 use Rattle.std.specs.Str.{bytes_eq, is_utf8}
 use Rattle.sq_base.specs.Xml.{is_xml_text}
@@ -10,6 +10,7 @@ use Rattle.sq_schema.specs.declared.property.Kind.{Kind}
 use Rattle.sq_schema.specs.declared.property.Kind.TheVariants.{Text, Integer, DateTime, YesNo}
 use Rattle.sq_schema.specs.declared.property.Property.{Property}
 use Rattle.sq_schema.specs.declared.values.NumberFault.{NumberFault}
+use Rattle.sq_schema.specs.Bounds.{is_from_to}
 use Rattle.sq_schema.specs.Dates.{interval_of}
 use Rattle.sq_schema.specs.Properties.{is_sound, has_name}
 use Rattle.sq_schema.specs.Values.{number_of}
@@ -18,7 +19,8 @@ use Rattle.sq_model.specs.declared.corpus.Content.TheVariants.{Words, Number, Mo
 use Rattle.sq_model.specs.declared.corpus.Value.{Value}
 use Rattle.sq_model.specs.declared.corpus.Item.{Item}
 use Rattle.sq_model.specs.declared.corpus.Caller.{Caller}
-use Rattle.sq_model.specs.Valid.{is_name, is_from_to, count_of}
+use Rattle.sq_model.specs.Limits.{most_rows, most_claims, most_values, most_callers, most_items, greatest_item_number, least_rank, greatest_rank}
+use Rattle.sq_model.specs.Valid.{is_name, count_of}
 use Rattle.sq_corpus.specs.declared.before.Before.{Before}
 use Rattle.sq_corpus.specs.declared.before.Stage.{Stage}
 use Rattle.sq_corpus.specs.declared.before.Stage.TheVariants.{Start, InProperties, InCallers, BeforeAllow, BeforeDeny, InValues}
@@ -59,7 +61,7 @@ unfoldable pub with_row : Before → Property → Result Before ℕ
 with_row before row =
     if not (is_sound row) then Err 602
     else (if list_any (has_name row.name) before.rows then Err 605
-    else (if nat_le 64 (length before.rows) then Err 608
+    else (if nat_le most_rows (length before.rows) then Err 608
     else Ok (record before { rows = before.rows ++ row ∷ [] })))
 
 unfoldable pub with_property : Before → List ℕ → Option Kind → Option Flags → Result Before ℕ
@@ -78,7 +80,7 @@ unfoldable pub with_caller : Before → List ℕ → List (List ℕ) → Result 
 with_caller before name claims =
     if list_any (is_named name) before.callers then Err 605
     else (if not (is_name name && list_all is_name claims) then Err 607
-    else (if nat_le 10_000 (length before.callers) then Err 608
+    else (if nat_le most_callers (length before.callers) then Err 608
     else Ok (record before { stage = InCallers; callers = before.callers ++ caller_of name claims ∷ [] })))
 
 -- An item: its number, its rank and its url, and then its access lists.
@@ -89,10 +91,10 @@ number_from_to first last (Ok n) = if is_from_to first last n then Some n else N
 number_from_to first last (Err fault) = None
 
 abbrev pub item_number : List ℕ → Option ℕ
-item_number field = option_map unsigned_abs (number_from_to (pos 1) (pos 4_294_967_294) (number_of field))
+item_number field = option_map unsigned_abs (number_from_to (pos 1) (pos greatest_item_number) (number_of field))
 
 abbrev pub rank_of : List ℕ → Option ℤ
-rank_of field = number_from_to (neg_ℤ (pos 1_000_000_000)) (pos 1_000_000_000) (number_of field)
+rank_of field = number_from_to least_rank greatest_rank (number_of field)
 
 -- the number is above that of the item before, if there is one
 abbrev pub is_above : Option Item → ℕ → Bool
@@ -112,18 +114,18 @@ closed before = record before { items = items_of before; item = None }
 unfoldable pub with_url : Before → ℕ → ℤ → Option (List ℕ) → Result Before ℕ
 with_url before number rank None = Err 607
 with_url before number rank (Some url) =
-    if nat_le 1_000_000 (length (items_of before)) then Err 608
+    if nat_le most_items (length (items_of before)) then Err 608
     else Ok (record before { stage = BeforeAllow; items = items_of before; item = Some (item_of number rank url) })
 
 unfoldable pub with_item : Before → Option ℕ → Option ℤ → Option (List ℕ) → Result Before ℕ
 with_item before (Some number) (Some rank) url = if is_above before.item number then with_url before number rank url else Err 606
 with_item before number rank url = Err 603
 
--- an access list: claims, at most 64
+-- an access list of these claims
 unfoldable pub list_fault : List (List ℕ) → Option ℕ
 list_fault claims =
     if not (list_all is_name claims) then Some 607
-    else (if nat_lt 64 (length claims) then Some 608
+    else (if nat_lt most_claims (length claims) then Some 608
     else None)
 
 abbrev pub allowing : List (List ℕ) → Item → Item
@@ -198,7 +200,7 @@ unfoldable pub with_content : Before → ℕ → Bool → ℕ → Result Content
 with_content before property multi earlier (Err code) = Err (refused_content multi earlier code)
 with_content before property multi earlier (Ok content) =
     if not multi && nat_lt 0 earlier then Err 605
-    else (if nat_le 1_000 earlier then Err 608
+    else (if nat_le most_values earlier then Err 608
     else Ok (held before (value_of property content)))
 
 unfoldable pub with_value_of : Before → ℕ → Option Property → List ℕ → Result Before ℕ

@@ -1,25 +1,13 @@
--- What a writer adds to a text.
-use Rattle.std.specs.Prelude.{◌≡◌, ℕ, ◌++◌, Bool, true, List, pos, neg_ℤ}
+-- What a writer asks of the values that it writes.
+use Rattle.std.specs.Prelude.{Bool}
 use Rattle.std.specs.List.{list_all}
-use Rattle.sq_model.specs.declared.corpus.Content.{Content}
-use Rattle.sq_model.specs.declared.corpus.Content.TheVariants.{Words, Number, Moment, Flag}
 use Rattle.sq_model.specs.declared.corpus.Item.{Item}
 use Rattle.sq_model.specs.declared.corpus.Value.{Value}
-use Rattle.sq_model.specs.Valid.{is_from_to}
+use Rattle.sq_model.specs.Shown.{has_shown_text}
 
--- a text of this kind has come behind the one before
-abbrev pub Appends : (List ℕ → Type 0) → List ℕ → List ℕ → Type 0
-Appends Is before now = (text : List ℕ) × Is text × (now ≡ before ++ text)
+abbrev pub is_shown : Value → Bool
+is_shown value = has_shown_text value.content
 
--- a moment lies in the years 0001 to 9999
-abbrev pub has_years : Content → Bool
-has_years (Moment n) = is_from_to (neg_ℤ (pos 62_135_596_800)) (pos 253_402_300_799) n
-has_years (Words text) = true
-has_years (Number n) = true
-has_years (Flag b) = true
-
-abbrev pub is_in_years : Value → Bool
-is_in_years value = has_years value.content
-
-abbrev pub are_in_years : Item → Bool
-are_in_years item = list_all is_in_years item.values
+-- each value has a text
+abbrev pub are_shown : Item → Bool
+are_shown item = list_all is_shown item.values

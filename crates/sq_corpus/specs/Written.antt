@@ -1,19 +1,17 @@
 -- The text that a corpus is written as. The values of an item stand by the rows of their properties, and those of one property in
--- their order. A corpus is written only if its texts are UTF-8.
-use Rattle.std.specs.Prelude.{◌≡◌, ℕ, ◌+◌, ◌==◌, if◌then◌else◌, Bool, true, false, List, [], ◌∷◌, ◌++◌, filter, codes, chars, pos}
+-- their order.
+use Rattle.std.specs.Prelude.{ℕ, ◌+◌, ◌==◌, if◌then◌else◌, Bool, true, false, List, [], ◌∷◌, ◌++◌, filter, codes, chars, pos}
 use Rattle.std.specs.Fmt.{signed_decimal}
-use Rattle.std.specs.List.{flat_map, AllByRecursion}
-use Rattle.std.specs.Str.{IsUtf8, encode_utf8_all}
+use Rattle.std.specs.List.{flat_map}
+use Rattle.std.specs.Str.{encode_utf8_all}
 use Rattle.sq_schema.specs.declared.property.Kind.{Kind}
 use Rattle.sq_schema.specs.declared.property.Kind.TheVariants.{Text, Integer, DateTime, YesNo}
 use Rattle.sq_schema.specs.declared.property.Property.{Property}
-use Rattle.sq_schema.specs.Moments.{IsMomentText}
 use Rattle.sq_model.specs.declared.corpus.Caller.{Caller}
-use Rattle.sq_model.specs.declared.corpus.Content.{Content}
-use Rattle.sq_model.specs.declared.corpus.Content.TheVariants.{Words, Number, Moment, Flag}
 use Rattle.sq_model.specs.declared.corpus.Corpus.{Corpus}
 use Rattle.sq_model.specs.declared.corpus.Item.{Item}
 use Rattle.sq_model.specs.declared.corpus.Value.{Value}
+use Rattle.sq_model.specs.Shown.{shown_text}
 
 -- Values by their properties.
 
@@ -69,55 +67,33 @@ abbrev pub property_line : Property → List ℕ
 property_line row =
     line (codes "property") (row.name ∷ (kind_word row.kind ∷ (flags_word row.searchable row.multi row.refinable ∷ [])))
 
--- The text is the texts of these, one after another.
-abbrev pub Each : {A : Type 0} → (A → List ℕ → Type 0) → List A → List ℕ → Type 0
-Each Is [] text = text ≡ []
-Each Is (x ∷ rest) text = (first : List ℕ) × (others : List ℕ) × Is x first × Each Is rest others × (text ≡ first ++ others)
-
 -- Callers.
 
-abbrev pub IsCallerText : Caller → List ℕ → Type 0
-IsCallerText caller text =
-    IsUtf8 caller.name × AllByRecursion IsUtf8 caller.claims × (text ≡ line (codes "caller") (caller.name ∷ caller.claims))
+abbrev pub caller_line : Caller → List ℕ
+caller_line caller = line (codes "caller") (caller.name ∷ caller.claims)
 
 -- Items.
 
-abbrev pub IsContentText : Content → List ℕ → Type 0
-IsContentText (Words text) field = IsUtf8 text × (field ≡ spelled text)
-IsContentText (Number n) field = field ≡ signed_decimal n
-IsContentText (Moment n) field = IsMomentText n field
-IsContentText (Flag true) field = field ≡ codes "true"
-IsContentText (Flag false) field = field ≡ codes "false"
-
 -- a value of the property of this name
-abbrev pub IsValueText : List ℕ → Value → List ℕ → Type 0
-IsValueText name value text =
-    (field : List ℕ) × IsContentText value.content field × (text ≡ line (codes "value") (name ∷ (field ∷ [])))
+abbrev pub value_line : List ℕ → Value → List ℕ
+value_line name value = line (codes "value") (name ∷ (spelled (shown_text value.content) ∷ []))
 
 -- the values of these rows, of which the first has this number, row after row
-abbrev pub AreRowTexts : List Value → ℕ → List Property → List ℕ → Type 0
-AreRowTexts values at [] text = text ≡ []
-AreRowTexts values at (row ∷ rows) text =
-    (first : List ℕ) × (others : List ℕ) × Each (IsValueText row.name) (filter (is_at at) values) first
-    × AreRowTexts values (at + 1) rows others × (text ≡ first ++ others)
+abbrev pub row_lines : List Value → ℕ → List Property → List ℕ
+row_lines values at [] = []
+row_lines values at (row ∷ rows) = flat_map (value_line row.name) (filter (is_at at) values) ++ row_lines values (at + 1) rows
 
 abbrev pub item_line : Item → List ℕ
 item_line item =
     line (codes "item") (signed_decimal (pos item.number) ∷ (signed_decimal item.rank ∷ (spelled item.url ∷ [])))
 
 -- an item of a corpus of these properties
-pub record IsItemText (rows : List Property) (item : Item) (text : List ℕ) : Type 0 where
-  pub url : IsUtf8 item.url
-  pub allow : AllByRecursion IsUtf8 item.allow
-  pub deny : AllByRecursion IsUtf8 item.deny
-  pub values : List ℕ
-  pub are : AreRowTexts item.values 0 rows values
-  pub written : text ≡ item_line item ++ (line (codes "allow") item.allow ++ (line (codes "deny") item.deny ++ values))
+abbrev pub item_text : List Property → Item → List ℕ
+item_text rows item =
+    item_line item ++ (line (codes "allow") item.allow ++ (line (codes "deny") item.deny ++ row_lines item.values 0 rows))
 
--- The text is that of the corpus.
-pub record IsWritten (corpus : Corpus) (text : List ℕ) : Type 0 where
-  pub callers : List ℕ
-  pub items : List ℕ
-  pub are_callers : Each IsCallerText corpus.callers callers
-  pub are_items : Each (IsItemText corpus.schema) corpus.items items
-  pub written : text ≡ line (codes "SQCORPUS 1") [] ++ (flat_map property_line corpus.schema ++ (callers ++ items))
+-- the text of the corpus
+abbrev pub corpus_text : Corpus → List ℕ
+corpus_text corpus =
+    line (codes "SQCORPUS 1") []
+    ++ (flat_map property_line corpus.schema ++ (flat_map caller_line corpus.callers ++ flat_map (item_text corpus.schema) corpus.items))

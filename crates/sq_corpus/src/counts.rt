@@ -1,4 +1,5 @@
 ghost use Rattle.std.specs.Prelude.{◌≡◌, ℕ, ◌+◌, ◌<◌, ◌^◌, ◌==◌, slice_index, if◌then◌else◌, OnOk};
+ghost use Rattle.sq_model.specs.Limits.{most_values};
 
 use std::alloc::AllocError;
 
@@ -15,7 +16,7 @@ pub(crate) fn count_at(counts: &[u32], place: usize) -> u32
 
 /// Adds 1 at a place.
 pub(crate) fn add_one(counts: &mut Vec<u32>, place: usize) -> Result<(), AllocError>
-    requires few { slice_index counts.old.items place < 1_000 }
+    requires few { slice_index counts.old.items place < most_values }
     requires within { place < 2 ^ 32 }
     ensures { OnOk result ((p : ℕ) → slice_index counts.new.items p ≡ slice_index counts.old.items p + (if place == p then 1 else 0)) }
 {

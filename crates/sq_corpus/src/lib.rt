@@ -16,6 +16,6 @@ mod words;
 mod write;
 
 pub use fault::CorpusFault;
-pub use laws::{values_are_kept, written_texts_read_back};
+pub use laws::{spelled_corpora_are_valid, values_are_kept, written_texts_read_back};
 pub use read::read_corpus;
 pub use write::write_corpus;

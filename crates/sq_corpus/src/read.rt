@@ -1,5 +1,6 @@
 ghost use Rattle.std.specs.Prelude.{◌≡◌, ◌≤◌, true, length, IfOk};
 ghost use Rattle.std.specs.List.{list_all};
+ghost use Rattle.sq_model.specs.Limits.{most_corpus_bytes};
 ghost use Rattle.sq_model.specs.Valid.{IsValid, has_short_texts};
 ghost use Rattle.sq_corpus.specs.CorpusText as spec;
 ghost use Rattle.sq_corpus.specs.Keeps.{IsKept};
@@ -7,9 +8,10 @@ ghost use Rattle.sq_corpus.specs.Reads as reads;
 
 use crate::CorpusFault;
 use crate::fault::Refusal;
+use crate::laws::spelled_corpora_are_valid;
 use crate::pieces::first_line;
 use crate::reader::Reader;
-use sq_model::Corpus;
+use sq_model::{Corpus, valid_texts_are_short};
 use std::alloc::Global;
 
 fn code_of_rest(rest: &[u8]) -> u16
@@ -66,11 +68,13 @@ fn end_of(alloc: Global, reader: Reader, line: u32, rest: &[u8]) -> Result<Corpu
 /// | 608 | there are too many of them |
 #[tactic(auto, unfolding(crate::specs::CorpusText::corpus_of))]
 pub fn read_corpus(alloc: Global, bytes: &[u8]) -> Result<Corpus, CorpusFault>
-    requires { length bytes.now ≤ 67_108_864 }
+    requires { length bytes.now ≤ most_corpus_bytes }
     ensures reads { reads.Reads bytes.now result }
     ensures valid { IfOk result IsValid }
     ensures short { IfOk result (λ corpus. list_all has_short_texts corpus.items ≡ true) }
 {
+    spelled_corpora_are_valid();
+    valid_texts_are_short();
     let mut reader = Reader::new(alloc);
     let mut rest = bytes;
     let mut number = 1u32;

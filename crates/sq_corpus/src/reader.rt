@@ -1,4 +1,5 @@
 ghost use Rattle.std.specs.Prelude.{◌≡◌, ◌<◌, map, slice_index, position, IfOk, OnOk, Some, Ok};
+ghost use Rattle.sq_model.specs.Limits.{most_values};
 ghost use Rattle.sq_model.specs.Valid.{count_of};
 ghost use Rattle.sq_schema.specs.Properties.{has_name};
 ghost use Rattle.sq_corpus.specs.Escapes.{text_of};
@@ -311,7 +312,7 @@ impl Reader {
 
     fn hold(&mut self, value: Value) -> Result<(), Refusal>
         requires kept { IsKept self.old }
-        requires few { slice_index self.old.counts.items value.property < 1_000 }
+        requires few { slice_index self.old.counts.items value.property < most_values }
         ensures takes { Takes (Ok (spec.held self.old.before value)) self.new.before result }
         ensures kept { OnOk result (IsKept self.new) }
     {

@@ -33,6 +33,7 @@ fn has_no_control(text: &str) -> bool
 }
 
 /// Whether the field may be a caller's name or a claim.
+#[tactic(auto, using(crate::proofs::LineLemmas::utf8_test))]
 pub(crate) fn is_name(field: &str) -> bool
     ensures { result ≡ valid.is_name field.now }
 {

@@ -1,14 +1,15 @@
-ghost use Rattle.std.specs.Prelude.{◌≡◌, ◌∷◌, ◌++◌, [], ◌<◌, true, filter, length, slice_get, Some, IfOk, OnOk, string_bytes};
+ghost use Rattle.std.specs.Prelude.{◌≡◌, ◌∷◌, ◌++◌, ◌<◌, true, filter, length, slice_get, Some, IfOk, OnOk, string_bytes};
 ghost use Rattle.std.specs.Fmt.{signed_decimal};
-ghost use Rattle.std.specs.List.{flat_map, list_all, AllByRecursion};
-ghost use Rattle.std.specs.Str.{IsUtf8, encode_utf8_all};
+ghost use Rattle.std.specs.List.{flat_map, list_all};
+ghost use Rattle.std.specs.Str.{encode_utf8_all};
+ghost use Rattle.sq_model.specs.Shown as shown;
 ghost use Rattle.sq_model.specs.Valid.{IsValid};
 ghost use Rattle.sq_corpus.specs.Written as spec;
 ghost use Rattle.sq_corpus.specs.Writes as writes;
 
 use sq_base::Text;
-use sq_model::{Caller, Content, Corpus, Item, Value};
-use sq_schema::{Kind, Property, Schema, moment_text};
+use sq_model::{Caller, Corpus, Item, Value, shown_text, values_are_shown};
+use sq_schema::{Kind, Property, Schema};
 use std::alloc::{AllocError, Global};
 
 #[tactic(auto, unfolding(crate::specs::Written::escape))]
@@ -29,8 +30,7 @@ fn push_escaped(out: &mut String, c: char) -> Result<(), AllocError>
 }
 
 fn push_spelled(out: &mut String, text: &str) -> Result<(), AllocError>
-    ensures utf8 { IsUtf8 text.now }
-    ensures spelled { OnOk result (string_bytes out.new ≡ string_bytes out.old ++ spec.spelled text.now) }
+    ensures { OnOk result (string_bytes out.new ≡ string_bytes out.old ++ spec.spelled text.now) }
 {
     for c in text.chars() {
         push_escaped(out, c)?;
@@ -39,16 +39,14 @@ fn push_spelled(out: &mut String, text: &str) -> Result<(), AllocError>
 }
 
 fn push_field(out: &mut String, field: &str) -> Result<(), AllocError>
-    ensures utf8 { IsUtf8 field.now }
-    ensures field { OnOk result (string_bytes out.new ≡ string_bytes out.old ++ 9 ∷ field.now) }
+    ensures { OnOk result (string_bytes out.new ≡ string_bytes out.old ++ 9 ∷ field.now) }
 {
     out.push('\t')?;
     out.push_str(field)
 }
 
 fn push_end(out: &mut String, mut fields: &[Text]) -> Result<(), AllocError>
-    ensures utf8 { OnOk result (AllByRecursion IsUtf8 fields.entry.now) }
-    ensures end { OnOk result (string_bytes out.new ≡ string_bytes out.old ++ spec.line_end fields.entry.now) }
+    ensures { OnOk result (string_bytes out.new ≡ string_bytes out.old ++ spec.line_end fields.entry.now) }
 {
     while let [field, rest @ ..] = fields {
         push_field(out, field.as_str())?;
@@ -113,7 +111,7 @@ fn push_properties(out: &mut String, schema: &Schema) -> Result<(), AllocError>
 }
 
 fn push_caller(out: &mut String, caller: &Caller) -> Result<(), AllocError>
-    ensures { OnOk result (writes.Appends (spec.IsCallerText caller.now) (string_bytes out.old) (string_bytes out.new)) }
+    ensures { OnOk result (string_bytes out.new ≡ string_bytes out.old ++ spec.caller_line caller.now) }
 {
     out.push_str("caller")?;
     push_field(out, caller.name.as_str())?;
@@ -121,7 +119,7 @@ fn push_caller(out: &mut String, caller: &Caller) -> Result<(), AllocError>
 }
 
 fn push_callers(out: &mut String, mut callers: &[Caller]) -> Result<(), AllocError>
-    ensures { OnOk result (writes.Appends (spec.Each spec.IsCallerText callers.entry.now) (string_bytes out.old) (string_bytes out.new)) }
+    ensures { OnOk result (string_bytes out.new ≡ string_bytes out.old ++ flat_map spec.caller_line callers.entry.now) }
 {
     while let [caller, rest @ ..] = callers {
         push_caller(out, caller)?;
@@ -130,27 +128,15 @@ fn push_callers(out: &mut String, mut callers: &[Caller]) -> Result<(), AllocErr
     Ok(())
 }
 
-fn push_content(alloc: Global, out: &mut String, content: &Content) -> Result<(), AllocError>
-    requires { writes.has_years content.now ≡ true }
-    ensures { OnOk result (writes.Appends (spec.IsContentText content.now) (string_bytes out.old) (string_bytes out.new)) }
-{
-    match content {
-        Content::Words(text) => push_spelled(out, text.as_str()),
-        Content::Number(n) => out.push_str(&format!(in alloc; "{n}")?),
-        Content::Moment(moment) => out.push_str(moment_text(alloc, *moment)?.as_str()),
-        Content::Flag(true) => out.push_str("true"),
-        Content::Flag(false) => out.push_str("false"),
-    }
-}
-
 fn push_value(alloc: Global, out: &mut String, name: &str, value: &Value) -> Result<(), AllocError>
-    requires { writes.is_in_years value.now ≡ true }
-    ensures { OnOk result (writes.Appends (spec.IsValueText name.now value.now) (string_bytes out.old) (string_bytes out.new)) }
+    requires { shown.has_shown_text value.now.content ≡ true }
+    ensures { OnOk result (string_bytes out.new ≡ string_bytes out.old ++ spec.value_line name.now value.now) }
 {
+    let text = shown_text(alloc, &value.content)?;
     out.push_str("value")?;
     push_field(out, name)?;
     out.push('\t')?;
-    push_content(alloc, out, &value.content)?;
+    push_spelled(out, text.as_str())?;
     out.push('\n')
 }
 
@@ -161,9 +147,9 @@ fn push_values_of(
     property: u32,
     mut values: &[Value],
 ) -> Result<(), AllocError>
-    requires { list_all writes.is_in_years values.now ≡ true }
-    ensures { OnOk result (writes.Appends (spec.Each (spec.IsValueText name.now) (filter (spec.is_at property) values.entry.now))
-        (string_bytes out.old) (string_bytes out.new)) }
+    requires { list_all writes.is_shown values.now ≡ true }
+    ensures { OnOk result (string_bytes out.new
+        ≡ string_bytes out.old ++ flat_map (spec.value_line name.now) (filter (spec.is_at property) values.entry.now)) }
 {
     while let [value, rest @ ..] = values {
         if value.property == property {
@@ -180,8 +166,8 @@ fn push_values(
     schema: &Schema,
     values: &[Value],
 ) -> Result<(), AllocError>
-    requires { list_all writes.is_in_years values.now ≡ true }
-    ensures { OnOk result (writes.Appends (spec.AreRowTexts values.now 0 schema.now) (string_bytes out.old) (string_bytes out.new)) }
+    requires { list_all writes.is_shown values.now ≡ true }
+    ensures { OnOk result (string_bytes out.new ≡ string_bytes out.old ++ spec.row_lines values.now 0 schema.now) }
 {
     for row in 0..schema.len() {
         let name = property_at(schema, row).name.as_str();
@@ -198,7 +184,7 @@ fn push_number(alloc: Global, out: &mut String, n: i64) -> Result<(), AllocError
 }
 
 fn push_item_line(alloc: Global, out: &mut String, item: &Item) -> Result<(), AllocError>
-    ensures { OnOk result (IsUtf8 item.now.url × (string_bytes out.new ≡ string_bytes out.old ++ spec.item_line item.now)) }
+    ensures { OnOk result (string_bytes out.new ≡ string_bytes out.old ++ spec.item_line item.now) }
 {
     out.push_str("item")?;
     push_number(alloc, out, i64::from(item.number))?;
@@ -214,8 +200,8 @@ fn push_item(
     schema: &Schema,
     item: &Item,
 ) -> Result<(), AllocError>
-    requires { writes.are_in_years item.now ≡ true }
-    ensures { OnOk result (writes.Appends (spec.IsItemText schema.now item.now) (string_bytes out.old) (string_bytes out.new)) }
+    requires { writes.are_shown item.now ≡ true }
+    ensures { OnOk result (string_bytes out.new ≡ string_bytes out.old ++ spec.item_text schema.now item.now) }
 {
     push_item_line(alloc, out, item)?;
     out.push_str("allow")?;
@@ -231,8 +217,8 @@ fn push_items(
     schema: &Schema,
     mut items: &[Item],
 ) -> Result<(), AllocError>
-    requires { list_all writes.are_in_years items.now ≡ true }
-    ensures { OnOk result (writes.Appends (spec.Each (spec.IsItemText schema.now) items.entry.now) (string_bytes out.old) (string_bytes out.new)) }
+    requires { list_all writes.are_shown items.now ≡ true }
+    ensures { OnOk result (string_bytes out.new ≡ string_bytes out.old ++ flat_map (spec.item_text schema.now) items.entry.now) }
 {
     while let [item, rest @ ..] = items {
         push_item(alloc, out, schema, item)?;
@@ -246,8 +232,9 @@ fn push_items(
 /// 67,108,864 bytes is written too, but not read again.
 pub fn write_corpus(alloc: Global, corpus: &Corpus) -> Result<Vec<u8>, AllocError>
     requires { IsValid corpus.now }
-    ensures { IfOk result (λ bytes. spec.IsWritten corpus.now bytes.items) }
+    ensures { IfOk result (λ bytes. bytes.items ≡ spec.corpus_text corpus.now) }
 {
+    values_are_shown();
     let mut out = String::from_str(alloc, "SQCORPUS 1\n")?;
     push_properties(&mut out, &corpus.schema)?;
     push_callers(&mut out, corpus.callers.as_slice())?;

@@ -12,7 +12,7 @@ ghost use Rattle.sq_kql.specs.Tree as spec;
 ghost use Rattle.sq_kql.specs.WellFormed.{IsWellFormed};
 
 use crate::level::{
-    Level, Listing, Outer, Placed, Reading, fresh, whole, with_and, with_operand, with_or,
+    Level, Listing, Outer, Placed, Reading, fresh, let_go, whole, with_and, with_operand, with_or,
     with_proximity, with_sign, with_xrank,
 };
 use crate::order::order;
@@ -21,6 +21,7 @@ use sq_base::{Fault, List, Text};
 use sq_lex::{Cut, KKind, KLexeme, Relation, kql_lexemes, lexemes_are_sound};
 use sqlite_items::Boxed;
 use std::alloc::{AllocError, Global};
+use std::mem::replace;
 
 fn cut_piece(alloc: Global, text: &str, cut: Cut) -> Result<Piece, AllocError>
     requires { IsPiece text.now cut }
@@ -78,10 +79,10 @@ fn shift_level(
     text: &str,
     kind: KKind,
     at: u32,
-    level: Level,
-) -> Result<Level, AllocError>
+    level: &mut Level,
+) -> Result<(), AllocError>
     requires { HasPieces text.now at kind }
-    ensures { IfOk result (λ l. l ≡ spec.shift_level text.now kind at level) }
+    ensures { IfOk result (λ _. level.new ≡ spec.shift_level text.now kind at level.old) }
 {
     match kind {
         KKind::All => with_operand(
@@ -105,92 +106,60 @@ fn shift_level(
         KKind::Minus | KKind::Not => with_sign(level, RawSign::Minus, at),
         KKind::And => with_and(alloc, level),
         KKind::Or => with_or(alloc, level),
-        KKind::Near(n) => Ok(with_proximity(level, n, false)),
-        KKind::Onear(n) => Ok(with_proximity(level, n, true)),
+        KKind::Near(n) => {
+            with_proximity(level, n, false);
+            Ok(())
+        }
+        KKind::Onear(n) => {
+            with_proximity(level, n, true);
+            Ok(())
+        }
         KKind::Xrank(cb) => with_xrank(alloc, level, cb),
         KKind::Free(_) | KKind::Words(_) | KKind::WordsEnd | KKind::LeftParen | KKind::RightParen =>
-            Ok(level),
+            Ok(()),
     }
 }
 
 /// Free text is a piece of a list that is open, or else an operand.
-fn with_free(alloc: Global, at: u32, piece: Piece, reading: Reading) -> Result<Reading, AllocError>
-    ensures { IfOk result (λ r. r ≡ spec.with_free reading.listing at piece reading) }
+fn with_free(alloc: Global, at: u32, piece: Piece, reading: &mut Reading) -> Result<(), AllocError>
+    ensures { IfOk result (λ _. reading.new ≡ spec.with_free reading.old.listing at piece reading.old) }
 {
-    let Reading {
-        level,
-        outer,
-        listing,
-    } = reading;
-    match listing {
+    match reading.listing.take() {
         None => {
             let tree = KRaw::Free(piece);
-            Ok(Reading {
-                level: with_operand(alloc, level, Placed { at, tree })?,
-                outer,
-                listing: None,
-            })
+            with_operand(alloc, &mut reading.level, Placed { at, tree })
         }
-        Some(
-            Listing {
-                at: word,
-                mut pieces,
-            },
-        ) => {
-            pieces.push(piece)?;
-            Ok(Reading {
-                level,
-                outer,
-                listing: Some(Listing { at: word, pieces }),
-            })
+        Some(mut listing) => {
+            listing.pieces.push(piece)?;
+            let_go(reading.listing.replace(listing));
+            Ok(())
         }
     }
 }
 
 /// A list that is open is whole.
-fn with_list(alloc: Global, reading: Reading) -> Result<Reading, AllocError>
-    ensures { IfOk result (λ r. r ≡ spec.with_list reading.listing reading) }
+fn with_list(alloc: Global, reading: &mut Reading) -> Result<(), AllocError>
+    ensures { IfOk result (λ _. reading.new ≡ spec.with_list reading.old.listing reading.old) }
 {
-    let Reading {
-        level,
-        outer,
-        listing,
-    } = reading;
-    match listing {
-        None => Ok(Reading {
-            level,
-            outer,
-            listing: None,
-        }),
+    match reading.listing.take() {
+        None => Ok(()),
         Some(Listing { at, pieces }) => {
             let tree = KRaw::Words { at, pieces };
-            Ok(Reading {
-                level: with_operand(alloc, level, Placed { at, tree })?,
-                outer,
-                listing: None,
-            })
+            with_operand(alloc, &mut reading.level, Placed { at, tree })
         }
     }
 }
 
-fn with_open(alloc: Global, at: u32, reading: Reading) -> Result<Reading, AllocError>
-    ensures { IfOk result (λ r. r ≡ spec.with_open at reading) }
+fn with_open(alloc: Global, at: u32, reading: &mut Reading) -> Result<(), AllocError>
+    ensures { IfOk result (λ _. reading.new ≡ spec.with_open at reading.old) }
 {
-    let Reading {
-        level,
-        mut outer,
-        listing,
-    } = reading;
-    outer.push(Outer { level, at })?;
-    Ok(Reading {
-        level: fresh(alloc, None),
-        outer,
-        listing,
-    })
+    let level = replace(&mut reading.level, fresh(alloc, None));
+    reading.outer.push(Outer { level, at })?;
+    Ok(())
 }
 
-fn group_node(alloc: Global, at: u32, inner: Level) -> Result<Placed, AllocError>
-    ensures { IfOk result (λ p. p ≡ spec.group_node at inner) }
+fn group_node(alloc: Global, at: u32, inner: &mut Level) -> Result<Placed, AllocError>
+    ensures { IfOk result (λ p. p ≡ spec.group_node at inner.old) }
 {
     let Placed { at: _, tree } = whole(alloc, inner)?;
     Ok(Placed {
@@ -203,82 +172,41 @@ fn group_node(alloc: Global, at: u32, inner: Level) -> Result<Placed, AllocError
 }
 
 #[tactic(auto, using(crate::proofs::ListLemmas::split_last_is))]
-fn with_close(alloc: Global, reading: Reading) -> Result<Reading, AllocError>
-    ensures { IfOk result (λ r. r ≡ spec.with_close (spec.split_last reading.outer) reading) }
+fn with_close(alloc: Global, reading: &mut Reading) -> Result<(), AllocError>
+    ensures { IfOk result (λ _. reading.new ≡ spec.with_close (spec.split_last reading.old.outer) reading.old) }
 {
-    let Reading {
-        level,
-        outer,
-        listing,
-    } = reading;
-    let mut outer = outer.into_vec();
-    match outer.pop() {
-        None => Ok(Reading {
-            level,
-            outer: List::from_vec(outer),
-            listing,
-        }),
-        Some(Outer { level: around, at }) => {
-            let group = group_node(alloc, at, level)?;
-            Ok(Reading {
-                level: with_operand(alloc, around, group)?,
-                outer: List::from_vec(outer),
-                listing,
-            })
+    let mut outer = replace(&mut reading.outer, List::new(alloc)).into_vec();
+    let innermost = outer.pop();
+    let_go(replace(&mut reading.outer, List::from_vec(outer)));
+    match innermost {
+        None => Ok(()),
+        Some(Outer { level, at }) => {
+            let mut inner = replace(&mut reading.level, level);
+            let group = group_node(alloc, at, &mut inner);
+            let_go(inner);
+            with_operand(alloc, &mut reading.level, group?)
         }
     }
-}
-
-fn on_level(
-    alloc: Global,
-    text: &str,
-    kind: KKind,
-    at: u32,
-    reading: Reading,
-) -> Result<Reading, AllocError>
-    requires { HasPieces text.now at kind }
-    ensures { IfOk result (λ r. r ≡ spec.at_level reading (spec.shift_level text.now kind at reading.level)) }
-{
-    let Reading {
-        level,
-        outer,
-        listing,
-    } = reading;
-    Ok(Reading {
-        level: shift_level(alloc, text, kind, at, level)?,
-        outer,
-        listing,
-    })
 }
 
 /// What is read behind one more lexeme.
 fn shift(
     alloc: Global,
     text: &str,
-    reading: Reading,
+    reading: &mut Reading,
     lexeme: KLexeme,
-) -> Result<Reading, AllocError>
+) -> Result<(), AllocError>
     requires { IsWhole text.now lexeme }
-    ensures { IfOk result (λ r. r ≡ spec.shift text.now reading lexeme) }
+    ensures { IfOk result (λ _. reading.new ≡ spec.shift text.now reading.old lexeme) }
 {
     let at = lexeme.from;
     let kind = lexeme.kind;
     match kind {
         KKind::Free(cut) => with_free(alloc, at, cut_piece(alloc, text, cut)?, reading),
         KKind::Words(_) => {
-            let Reading {
-                level,
-                outer,
-                listing: _listing,
-            } = reading;
-            Ok(Reading {
-                level,
-                outer,
-                listing: Some(Listing {
-                    at,
-                    pieces: List::new(alloc),
-                }),
-            })
+            let pieces = List::new(alloc);
+            let_go(reading.listing.replace(Listing { at, pieces }));
+            Ok(())
         }
         KKind::WordsEnd => with_list(alloc, reading),
         KKind::LeftParen => with_open(alloc, at, reading),
@@ -292,32 +220,42 @@ fn shift(
         | KKind::Or
         | KKind::Near(_)
         | KKind::Onear(_)
-        | KKind::Xrank(_) => on_level(alloc, text, kind, at, reading),
+        | KKind::Xrank(_) => shift_level(alloc, text, kind, at, &mut reading.level),
     }
+}
+
+/// The tree of lexemes behind what is read.
+fn tree_behind(
+    alloc: Global,
+    text: &str,
+    mut lexemes: &[KLexeme],
+    reading: &mut Reading,
+) -> Result<KRaw, AllocError>
+    requires { AreWhole text.now lexemes.now }
+    ensures { IfOk result (λ t. t ≡ (spec.whole (fold (spec.shift text.now) reading.old lexemes.entry.now).level).tree) }
+{
+    while let [lexeme, rest @ ..] = lexemes {
+        shift(alloc, text, reading, *lexeme)?;
+        lexemes = rest;
+    }
+    let Placed { at: _, tree } = whole(alloc, &mut reading.level)?;
+    Ok(tree)
 }
 
 /// The tree of lexemes that stand in order.
 #[tactic(auto, unfolding(crate::specs::Tree::tree_of))]
-fn tree_of(alloc: Global, text: &str, mut lexemes: &[KLexeme]) -> Result<KRaw, AllocError>
+fn tree_of(alloc: Global, text: &str, lexemes: &[KLexeme]) -> Result<KRaw, AllocError>
     requires { AreWhole text.now lexemes.now }
-    ensures { IfOk result (λ t. t ≡ spec.tree_of text.now lexemes.entry.now) }
+    ensures { IfOk result (λ t. t ≡ spec.tree_of text.now lexemes.now) }
 {
     let mut reading = Reading {
         level: fresh(alloc, None),
         outer: List::new(alloc),
         listing: None,
     };
-    while let [lexeme, rest @ ..] = lexemes {
-        reading = shift(alloc, text, reading, *lexeme)?;
-        lexemes = rest;
-    }
-    let Reading {
-        level,
-        outer: _outer,
-        listing: _listing,
-    } = reading;
-    let Placed { at: _, tree } = whole(alloc, level)?;
-    Ok(tree)
+    let tree = tree_behind(alloc, text, lexemes, &mut reading);
+    let_go(reading);
+    tree
 }
 
 /// The tree of a text, or its first fault: of its lexemes, and then of their order.

@@ -15,7 +15,8 @@ use Rattle.sq_model.specs.declared.fql.SpanTree.{SpanTree}
 use Rattle.sq_model.specs.declared.fql.SpanTree.TheVariants as s
 use Rattle.sq_model.specs.declared.fql.FTree.{FTree}
 use Rattle.sq_model.specs.declared.fql.FTree.TheVariants as f
-use Rattle.sq_typing.specs.FqlNumbers.{between, first_number, last_number, within}
+use Rattle.sq_schema.specs.Bounds.{least_number, greatest_number}
+use Rattle.sq_typing.specs.FqlNumbers.{between, within}
 use Rattle.sq_lower.specs.Runs.{Joins, Form, run_form}
 
 abbrev mutual
@@ -43,10 +44,10 @@ meant k first last = single first
 
 -- the interval that a restriction's values come from, but for `<>`
 abbrev pub related : Kind → Relation → ℤ → ℤ → Interval
-related k relation.Less first last = between false true (single first_number) (single first)
-related k relation.More first last = between true false (single last) (single last_number)
-related k relation.AtMost first last = between false false (single first_number) (single last)
-related k relation.AtLeast first last = between false false (single first) (single last_number)
+related k relation.Less first last = between false true (single least_number) (single first)
+related k relation.More first last = between true false (single last) (single greatest_number)
+related k relation.AtMost first last = between false false (single least_number) (single last)
+related k relation.AtLeast first last = between false false (single first) (single greatest_number)
 related k relation.Range first last = between false false (single first) (single last)
 related k _ first last = meant k first last
 

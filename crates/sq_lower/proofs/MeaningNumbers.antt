@@ -7,17 +7,18 @@ use Rattle.sq_schema.specs.declared.interval.Interval.{Interval}
 use Rattle.sq_schema.specs.declared.property.Kind.{Kind}
 use Rattle.sq_schema.specs.declared.property.Kind.TheVariants as kind
 use Rattle.sq_schema.specs.declared.property.Property.{Property}
-use Rattle.sq_model.specs.Kinds.{is_integer_value, is_moment_value, is_same}
+use Rattle.sq_model.specs.Kinds.{is_same}
 use Rattle.sq_model.specs.Passages.{numbers, number_of, some_within}
 use Rattle.sq_model.specs.Kql.{compares}
 use Rattle.sq_model.specs.KqlSound.{is_value_test}
-use Rattle.sq_model.specs.Valid.{is_value, is_content_of, has_kind, is_from_to}
+use Rattle.sq_model.specs.Valid.{is_value, is_content_of, has_kind}
 use Rattle.sq_model.specs.declared.corpus.Content.{Content}
 use Rattle.sq_model.specs.declared.corpus.Content.TheVariants.{Words, Number, Moment, Flag}
 use Rattle.sq_model.specs.declared.corpus.Value.{Value}
 use Rattle.sq_model.specs.declared.kql.Relation.{Relation}
 use Rattle.sq_model.specs.declared.kql.Relation.TheVariants.{Has, Equal, Less, More, AtMost, AtLeast, Unequal, Range}
-use Rattle.sq_typing.specs.FqlNumbers.{between, from_to, first_number, last_number}
+use Rattle.sq_schema.specs.Bounds.{is_from_to, is_integer_value, is_moment_value, least_number, greatest_number}
+use Rattle.sq_typing.specs.FqlNumbers.{between, from_to}
 use Rattle.sq_lower.proofs.Form.{meant, related}
 use Rattle.sq_lower.proofs.RunTests.{any_same, and_left, and_right}
 
@@ -78,16 +79,16 @@ from_to_within a b ns =
     any_same (λ n. int_le (from_to a b).first n && int_le n (from_to a b).last) (λ n. int_le a n && int_le n b)
     (λ n. from_to_one a b n (int_le a b) refl) ns
 
-below_is : (n first : ℤ) → is_integer_value n ≡ true → (int_le first_number n && int_le n (first -ℤ pos 1)) ≡ int_lt n first
+below_is : (n first : ℤ) → is_integer_value n ≡ true → (int_le least_number n && int_le n (first -ℤ pos 1)) ≡ int_lt n first
 below_is n first h = grind (arith, ints)
 
-above_is : (n last : ℤ) → is_integer_value n ≡ true → (int_le (last +ℤ pos 1) n && int_le n last_number) ≡ int_lt last n
+above_is : (n last : ℤ) → is_integer_value n ≡ true → (int_le (last +ℤ pos 1) n && int_le n greatest_number) ≡ int_lt last n
 above_is n last h = grind (arith, ints)
 
-at_most_is : (n last : ℤ) → is_integer_value n ≡ true → (int_le first_number n && int_le n last) ≡ int_le n last
+at_most_is : (n last : ℤ) → is_integer_value n ≡ true → (int_le least_number n && int_le n last) ≡ int_le n last
 at_most_is n last h = grind (arith, ints)
 
-at_least_is : (n first : ℤ) → is_integer_value n ≡ true → (int_le first n && int_le n last_number) ≡ int_le first n
+at_least_is : (n first : ℤ) → is_integer_value n ≡ true → (int_le first n && int_le n greatest_number) ≡ int_le first n
 at_least_is n first h = grind (arith, ints)
 
 any_fit : (p q : ℤ → Bool) → ((n : ℤ) → is_integer_value n ≡ true → p n ≡ q n) → (ns : List ℤ) → AllFit ns → list_any p ns ≡ list_any q ns
@@ -139,16 +140,16 @@ unfolding between
 related_within k Has first last ns direct sound fits = meant_within k first last ns sound
 related_within k Equal first last ns direct sound fits = meant_within k first last ns (as_equal k first last sound)
 related_within k Less first last ns direct sound fits =
-    from_to_within first_number (first -ℤ pos 1) ns
-    ∙ any_fit (λ n. int_le first_number n && int_le n (first -ℤ pos 1)) (λ n. int_lt n first) (λ n h. below_is n first h) ns fits
+    from_to_within least_number (first -ℤ pos 1) ns
+    ∙ any_fit (λ n. int_le least_number n && int_le n (first -ℤ pos 1)) (λ n. int_lt n first) (λ n h. below_is n first h) ns fits
 related_within k More first last ns direct sound fits =
-    from_to_within (last +ℤ pos 1) last_number ns
-    ∙ any_fit (λ n. int_le (last +ℤ pos 1) n && int_le n last_number) (λ n. int_lt last n) (λ n h. above_is n last h) ns fits
+    from_to_within (last +ℤ pos 1) greatest_number ns
+    ∙ any_fit (λ n. int_le (last +ℤ pos 1) n && int_le n greatest_number) (λ n. int_lt last n) (λ n h. above_is n last h) ns fits
 related_within k AtMost first last ns direct sound fits =
-    from_to_within first_number last ns
-    ∙ any_fit (λ n. int_le first_number n && int_le n last) (λ n. int_le n last) (λ n h. at_most_is n last h) ns fits
+    from_to_within least_number last ns
+    ∙ any_fit (λ n. int_le least_number n && int_le n last) (λ n. int_le n last) (λ n h. at_most_is n last h) ns fits
 related_within k AtLeast first last ns direct sound fits =
-    from_to_within first last_number ns
-    ∙ any_fit (λ n. int_le first n && int_le n last_number) (λ n. int_le first n) (λ n h. at_least_is n first h) ns fits
+    from_to_within first greatest_number ns
+    ∙ any_fit (λ n. int_le first n && int_le n greatest_number) (λ n. int_le first n) (λ n h. at_least_is n first h) ns fits
 related_within k Range first last ns direct sound fits = from_to_within first last ns
 related_within k Unequal first last ns direct sound fits = absurd direct

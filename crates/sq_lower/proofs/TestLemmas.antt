@@ -20,10 +20,9 @@ use Rattle.sq_schema.specs.Words.{is_same_word}
 use Rattle.sq_tokens.specs.Pattern.{Phrase, text_phrase, without_good_star}
 use Rattle.sq_tokens.specs.Token.{text_tokens}
 use Rattle.sq_model.specs.Copies.{copies, copies_each, greatest}
-use Rattle.sq_model.specs.Kinds.{kind_of, is_text_kind, is_text_property, is_integer_value, is_moment_value, is_same}
+use Rattle.sq_model.specs.Kinds.{kind_of, is_text_kind, is_text_property, is_same}
 use Rattle.sq_model.specs.KqlSound.{LeafSound, LeavesSound, reads_text, is_value_test, is_value_test_of}
 use Rattle.sq_model.specs.Lists.{is_empty}
-use Rattle.sq_model.specs.Valid.{is_from_to}
 use Rattle.sq_model.specs.declared.leaf.Leaf.{Leaf}
 use Rattle.sq_model.specs.declared.kql.Relation.{Relation}
 use Rattle.sq_model.specs.declared.kql.Relation.TheVariants as relation
@@ -43,7 +42,8 @@ use Rattle.sq_fql.specs.declared.raw.Op.TheVariants as op
 use Rattle.sq_typing.specs.declared.codes.TheConstants.{NO_TOKEN, BAD_DATE}
 use Rattle.sq_typing.specs.FqlPlaces.{place_of, is_outside, opened, entered}
 use Rattle.sq_typing.specs.FqlTexts.{unread, leaf as leaf_with, pattern_in, leaf_in, word_in, string_spans}
-use Rattle.sq_typing.specs.FqlNumbers.{number_or, number_in, date_in, yes_no_in, within, first_number, last_number, lower_bound, upper_bound, between}
+use Rattle.sq_schema.specs.Bounds.{is_from_to, is_integer_value, is_moment_value, least_number, greatest_number, least_moment, greatest_moment}
+use Rattle.sq_typing.specs.FqlNumbers.{number_or, number_in, date_in, yes_no_in, within, lower_bound, upper_bound, between}
 use Rattle.sq_typing.specs.Fql.{with_few_copies, few_copies, edge, lone, in_texts, combined_all, proximate, typed_at, fql_typed}
 use Rattle.sq_typing.specs.Together.{mapped, together, all_of}
 use Rattle.sq_lower.specs.Lowered.{apply, literal, scope, negated, phrase, words, range, text_form, text_test, flag_text, number_text, value_meant, values_related, value_form, value_test}
@@ -184,10 +184,10 @@ module _ (schema : List Property) (property : ℕ) (name : List ℕ) (opens : Op
 
 -- the bounds of a range, where a literal is read so
 abbrev low_of : (FPiece → Outcome Interval) → List ℕ → Outcome Interval
-low_of read text = if bytes_eq text (codes "min") then Ok (single first_number) else read (piece text)
+low_of read text = if bytes_eq text (codes "min") then Ok (single least_number) else read (piece text)
 
 abbrev high_of : (FPiece → Outcome Interval) → List ℕ → Outcome Interval
-high_of read text = if bytes_eq text (codes "max") then Ok (single last_number) else read (piece text)
+high_of read text = if bytes_eq text (codes "max") then Ok (single greatest_number) else read (piece text)
 
 -- how the scope of a property of this kind reads ranges
 abbrev Ranges : List Property → ℕ → Kind → (FPiece → Outcome Interval) → Type 0
@@ -268,7 +268,7 @@ integers_are _ first last h =
 
 integer_fits : (n : ℤ) → is_integer_value n ≡ true → FitsSigned w64 n
 integer_fits n h =
-    let parts = and_parts (int_le (neg_ℤ (pos 9_223_372_036_854_775_808)) n) (int_le n (pos 9_223_372_036_854_775_807)) h in
+    let parts = and_parts (int_le least_number n) (int_le n greatest_number) h in
     grind (arith, ints, parts.0, parts.1)
 
 -- "min" and "max" are no numbers
@@ -334,8 +334,8 @@ module _ (find : NamesFindRows) (numbers : NumbersReadBack) (dates : MomentsRead
   moment_reads : (n : ℤ) → is_moment_value n ≡ true → Reads kind.DateTime date_in n
   unfolding date_in
   moment_reads n h =
-      let parts = and_parts (int_le (neg_ℤ (pos 62_135_596_800)) n) (int_le n (pos 253_402_300_799)) h in
-      let lies : IsMoment n = (at_most (neg_ℤ (pos 62_135_596_800)) n parts.0, at_most n (pos 253_402_300_799) parts.1) in
+      let parts = and_parts (int_le least_moment n) (int_le n greatest_moment) h in
+      let lies : IsMoment n = (at_most least_moment n parts.0, at_most n greatest_moment parts.1) in
       record {
         value = ap (λ i. or_refused i BAD_DATE 0) (dates n (text_of_moment n) lies (written n lies));
         least = other_length (text_of_moment n) (codes "min") (moment_length n) refl;

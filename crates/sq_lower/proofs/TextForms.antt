@@ -16,12 +16,13 @@ use Rattle.std.proofs.lemmas.Str.Parse.{IsNumeralModel, numerals_by_value}
 use Rattle.sq_schema.specs.declared.property.Kind.{Kind}
 use Rattle.sq_schema.specs.declared.property.Kind.TheVariants as kind
 use Rattle.sq_schema.specs.declared.property.Property.{Property}
-use Rattle.sq_schema.specs.Moments.{text_of_moment, date_text, time_text, year_on, month_on, day_on, two_text, four_text}
+use Rattle.sq_schema.specs.Civil.{Civil, civil_of_day}
+use Rattle.sq_schema.specs.Moments.{text_of_moment, date_text, time_text, two_text, four_text}
 use Rattle.sq_schema.specs.Intervals.{day_of_moment}
 use Rattle.sq_schema.specs.Names.{is_name_byte, is_name}
 use Rattle.sq_schema.specs.Properties.{IsSchema, is_sound, fault_behind}
 use Rattle.sq_tokens.specs.Pattern.{has_good_star, without_good_star, first_bad_star}
-use Rattle.sq_model.specs.Kinds.{is_integer_value}
+use Rattle.sq_schema.specs.Bounds.{least_number, greatest_number, is_integer_value}
 use Rattle.sq_model.specs.KqlSound.{is_value_test}
 use Rattle.sq_model.specs.declared.kql.Relation.{Relation}
 use Rattle.sq_lex.specs.declared.class.Class.TheVariants as class
@@ -94,11 +95,11 @@ decimal_short n small = length-decimal-le 19 n (omega arith) (omega arith) (omeg
 
 integer_short : (n : ℤ) → is_integer_value n ≡ true → IsShort (signed_decimal n)
 integer_short (pos n) h =
-    let parts = and_parts (int_le (neg_ℤ (pos 9_223_372_036_854_775_808)) (pos n)) (int_le (pos n) (pos 9_223_372_036_854_775_807)) h in
+    let parts = and_parts (int_le least_number (pos n)) (int_le (pos n) greatest_number) h in
     let few : n ≤ 9_223_372_036_854_775_807 = grind (arith, ints, nat_tests, parts.1) in
     record { starless = decimal_starless n (omega arith); short = omega (arith, decimal_short n (omega arith)) }
 integer_short (negsuc n) h =
-    let parts = and_parts (int_le (neg_ℤ (pos 9_223_372_036_854_775_808)) (negsuc n)) (int_le (negsuc n) (pos 9_223_372_036_854_775_807)) h in
+    let parts = and_parts (int_le least_number (negsuc n)) (int_le (negsuc n) greatest_number) h in
     let few : suc n ≤ 9_223_372_036_854_775_808 = grind (arith, ints, nat_tests, parts.0) in
     record { starless = decimal_starless (suc n) (omega arith); short = omega (arith, decimal_short (suc n) (omega arith)) }
 
@@ -118,12 +119,12 @@ four_starless n = rw (plain_above (n / 1000), plain_above (n / 100 % 10), plain_
 joined_starless : (left right : List ℕ) → list_all is_plain left ≡ true → list_all is_plain right ≡ true → list_all is_plain (left ++ right) ≡ true
 joined_starless left right h k = list_all-append is_plain left right ∙ and_from (list_all is_plain left) (list_all is_plain right) h k
 
-date_starless : (day : ℤ) → list_all is_plain (date_text day) ≡ true
-date_starless day =
-    let year = four_text (unsigned_abs (year_on day)) ++ codes "-" in
-    let month = year ++ two_text (month_on day) in
-    joined_starless (month ++ codes "-") (two_text (day_on day))
-    (joined_starless month (codes "-") (joined_starless year (two_text (month_on day)) (joined_starless (four_text _) (codes "-") (four_starless _) refl) (two_starless _)) refl)
+date_starless : (date : Civil) → list_all is_plain (date_text date) ≡ true
+date_starless date =
+    let year = four_text (unsigned_abs date.year) ++ codes "-" in
+    let month = year ++ two_text date.month in
+    joined_starless (month ++ codes "-") (two_text date.day)
+    (joined_starless month (codes "-") (joined_starless year (two_text date.month) (joined_starless (four_text _) (codes "-") (four_starless _) refl) (two_starless _)) refl)
     (two_starless _)
 
 time_starless : (second : ℕ) → list_all is_plain (time_text second) ≡ true
@@ -137,10 +138,11 @@ time_starless second =
 moment_starless : (n : ℤ) → list_all is_plain (text_of_moment n) ≡ true
 unfolding text_of_moment
 moment_starless n =
-    let date = date_text (day_of_moment n) ++ codes "T" in
+    let day = civil_of_day (day_of_moment n) in
+    let date = date_text day ++ codes "T" in
     let time = time_text (unsigned_abs (int_rem_euclid n (pos 86_400))) in
     joined_starless (date ++ time) (codes "Z")
-    (joined_starless date time (joined_starless (date_text (day_of_moment n)) (codes "T") (date_starless (day_of_moment n)) refl) (time_starless _)) refl
+    (joined_starless date time (joined_starless (date_text day) (codes "T") (date_starless day) refl) (time_starless _)) refl
 
 moment_short : (n : ℤ) → IsShort (text_of_moment n)
 moment_short n = record { starless = moment_starless n; short = omega (arith, moment_length n) }

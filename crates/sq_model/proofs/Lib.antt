@@ -1,5 +1,7 @@
+pub mod Choices
 pub mod FqlEquations
 mod FqlExamples
 pub mod KqlEquations
+pub mod Members
 mod ValidLemmas
 mod WorkedExamples

@@ -9,6 +9,7 @@ use Rattle.sq_model.specs.declared.leaf.Leaf.{Leaf}
 use Rattle.sq_model.specs.declared.corpus.Content.TheVariants.{Words, Number}
 use Rattle.sq_model.specs.declared.corpus.Item.{Item}
 use Rattle.sq_model.specs.declared.corpus.Value.{Value}
+use Rattle.sq_model.specs.declared.kql.Joiner.TheVariants as joiner
 use Rattle.sq_model.specs.declared.kql.Sign.{Sign}
 use Rattle.sq_model.specs.declared.kql.Sign.TheVariants.{Plain, Plus, Minus}
 use Rattle.sq_model.specs.declared.kql.Relation.TheVariants.{Has, Equal, Less, Unequal, Range}
@@ -114,47 +115,63 @@ module _ (heading body : List ℕ) (h : text_tokens heading ≡ passage (codes "
   abbrev two : List Value
   two = values_of heading body (pos 7)
 
-  a_word_is_found : holds schema two (free (codes "company")) ≡ true
+  a_word_is_found : holds schema two joiner.All (free (codes "company")) ≡ true
   unfolding lists
   a_word_is_found = rw (h, b) refl
 
-  a_phrase_stays_in_one_passage : holds schema two (free (codes "notes acquisition")) ≡ false
+  a_phrase_stays_in_one_passage : holds schema two joiner.All (free (codes "notes acquisition")) ≡ false
   unfolding lists
   a_phrase_stays_in_one_passage = rw (h, b) refl
 
-  onear_at_its_bound : holds schema two (k.Near (free (codes "acquisition")) (free (codes "debt")) 2 true) ≡ true
+  onear_at_its_bound : holds schema two joiner.All (k.Near (free (codes "acquisition")) (free (codes "debt")) 2 true) ≡ true
   unfolding lists
   onear_at_its_bound = rw (h, b) refl
 
-  onear_below_its_bound : holds schema two (k.Near (free (codes "acquisition")) (free (codes "debt")) 1 true) ≡ false
+  onear_below_its_bound : holds schema two joiner.All (k.Near (free (codes "acquisition")) (free (codes "debt")) 1 true) ≡ false
   unfolding lists
   onear_below_its_bound = rw (h, b) refl
 
-  equal_is_the_whole_value : holds schema two (k.TextTest 0 Equal (leaf (codes "debt"))) ≡ false
+  equal_is_the_whole_value : holds schema two joiner.All (k.TextTest 0 Equal (leaf (codes "debt"))) ≡ false
   unfolding lists
   equal_is_the_whole_value = rw h refl
 
-  restrictions_of_one_property_join_by_or : holds schema two (k.Run (operand Plain (title (codes "debt")) ∷ operand Plain (title (codes "board")) ∷ [])) ≡ true
+  restrictions_of_one_property_join_by_or : holds schema two joiner.All (k.Run (operand Plain (title (codes "debt")) ∷ operand Plain (title (codes "board")) ∷ [])) ≡ true
   unfolding lists
   restrictions_of_one_property_join_by_or = rw h refl
 
-  plus_restrictions_all_hold : holds schema two (k.Run (operand Plus (title (codes "debt")) ∷ operand Plus (title (codes "board")) ∷ [])) ≡ false
+  plus_restrictions_all_hold : holds schema two joiner.All (k.Run (operand Plus (title (codes "debt")) ∷ operand Plus (title (codes "board")) ∷ [])) ≡ false
   unfolding lists
   plus_restrictions_all_hold = rw h refl
 
-  a_group_is_no_restriction : holds schema two (k.Run (operand Plain (title (codes "debt")) ∷ operand Plain (k.Group (title (codes "board"))) ∷ [])) ≡ false
+  a_group_is_no_restriction : holds schema two joiner.All (k.Run (operand Plain (title (codes "debt")) ∷ operand Plain (k.Group (title (codes "board"))) ∷ [])) ≡ false
   unfolding lists
   a_group_is_no_restriction = rw h refl
 
-  a_run_of_minus_operands : holds schema two (k.Run (operand Minus (free (codes "board")) ∷ operand Minus (k.ValueTest 2 Equal (pos 5) (pos 5)) ∷ [])) ≡ true
+  a_run_of_minus_operands : holds schema two joiner.All (k.Run (operand Minus (free (codes "board")) ∷ operand Minus (k.ValueTest 2 Equal (pos 5) (pos 5)) ∷ [])) ≡ true
   unfolding lists
   a_run_of_minus_operands = rw (h, b) refl
 
-  xrank_adds_once : boost schema two (k.Xrank (free (codes "debt")) (k.Or (free (codes "notes") ∷ free (codes "company") ∷ [])) (pos 5)) ≡ pos 5
+  loose_operands_all_hold : holds schema two joiner.All (k.Run (operand Plain (free (codes "notes")) ∷ operand Plain (free (codes "board")) ∷ [])) ≡ false
+  unfolding lists
+  loose_operands_all_hold = rw (h, b) refl
+
+  one_loose_operand_is_enough : holds schema two joiner.Any (k.Run (operand Plain (free (codes "notes")) ∷ operand Plain (free (codes "board")) ∷ [])) ≡ true
+  unfolding lists
+  one_loose_operand_is_enough = rw h refl
+
+  a_restriction_is_not_loose : holds schema two joiner.Any (k.Run (operand Plain (free (codes "notes")) ∷ operand Plain (title (codes "board")) ∷ [])) ≡ false
+  unfolding lists
+  a_restriction_is_not_loose = rw h refl
+
+  a_plus_operand_is_not_loose : holds schema two joiner.Any (k.Run (operand Plain (free (codes "notes")) ∷ operand Plus (free (codes "board")) ∷ [])) ≡ false
+  unfolding lists
+  a_plus_operand_is_not_loose = rw (h, b) refl
+
+  xrank_adds_once : boost schema two joiner.All (k.Xrank (free (codes "debt")) (k.Or (free (codes "notes") ∷ free (codes "company") ∷ [])) (pos 5)) ≡ pos 5
   unfolding lists
   xrank_adds_once = rw h refl
 
-  xrank_adds_nothing_where_the_rank_side_fails : boost schema two (k.Xrank (free (codes "debt")) (free (codes "board")) (pos 5)) ≡ pos 0
+  xrank_adds_nothing_where_the_rank_side_fails : boost schema two joiner.All (k.Xrank (free (codes "debt")) (free (codes "board")) (pos 5)) ≡ pos 0
   unfolding lists
   xrank_adds_nothing_where_the_rank_side_fails = rw (h, b) refl
 

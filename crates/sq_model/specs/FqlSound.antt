@@ -2,6 +2,7 @@
 use Rattle.std.specs.Prelude.{◌≡◌, ℕ, ◌+◌, ◌<◌, nat_le, Bool, true, List, [], ◌∷◌, length, sum}
 use Rattle.sq_schema.specs.declared.property.Property.{Property}
 use Rattle.sq_model.specs.Copies.{copies}
+use Rattle.sq_model.specs.Limits.{greatest_distance, most_copies, token_bound, xrank_bound}
 use Rattle.sq_model.specs.Kinds.{is_text_property, is_number_property, is_boost}
 use Rattle.sq_model.specs.declared.fql.Look.{Look}
 use Rattle.sq_model.specs.declared.fql.Look.TheVariants.{Searchable, One}
@@ -17,7 +18,7 @@ abbrev mutual
   pub SpansSound : SpanTree → Type 0
   SpansSound (Leaf leaf) = Unit {0}
   SpansSound (Union' shape parts) = SomeSpansSound parts
-  SpansSound (Near' shape parts n ordered) = (nat_le n 1_000 ≡ true) × SomeSpansSound parts
+  SpansSound (Near' shape parts n ordered) = (nat_le n greatest_distance ≡ true) × SomeSpansSound parts
 
   -- there is a part, and all are sound
   pub SomeSpansSound : {m : _} → Row_of-SpanTree m → Type 0
@@ -32,7 +33,7 @@ abbrev mutual
   -- no list is empty, and each part is as its schema and the limits want
   pub PartsSound : List Property → FTree → Type 0
   PartsSound schema All = Unit {0}
-  PartsSound schema (Spans look tree) = (is_look schema look ≡ true) × SpansSound tree × (nat_le (copies tree) 256 ≡ true)
+  PartsSound schema (Spans look tree) = (is_look schema look ≡ true) × SpansSound tree × (nat_le (copies tree) most_copies ≡ true)
   PartsSound schema (Count look leaf from to) = is_look schema look ≡ true
   PartsSound schema (Edge look leaf starts ends) = is_look schema look ≡ true
   PartsSound schema (Within property first last) = is_number_property schema property ≡ true
@@ -96,5 +97,5 @@ abbrev mutual
 
 pub record IsSound (schema : List Property) (tree : FTree) : Type 0 where
   pub parts : PartsSound schema tree
-  pub tokens : tokens_in tree < 100_000_000
-  pub xranks : xranks_in tree < 1_000_000
+  pub tokens : tokens_in tree < token_bound
+  pub xranks : xranks_in tree < xrank_bound

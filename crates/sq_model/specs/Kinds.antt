@@ -3,7 +3,9 @@ use Rattle.std.specs.Prelude.{ℕ, Bool, false, ◌&&◌, not, List, slice_get, 
 use Rattle.sq_schema.specs.declared.property.Kind.{Kind}
 use Rattle.sq_schema.specs.declared.property.Property.{Property}
 use Rattle.sq_schema.specs.Properties.{is_text}
-use Rattle.sq_model.specs.Valid.{is_from_to}
+use Rattle.sq_schema.specs.Bounds.{is_from_to}
+pub use Rattle.sq_schema.specs.Bounds.{is_integer_value, is_moment_value}
+use Rattle.sq_model.specs.Limits.{greatest_boost}
 
 abbrev pub kind_of : List Property → ℕ → Option Kind
 kind_of schema property = option_map (λ row. row.kind) (slice_get schema property)
@@ -24,17 +26,9 @@ is_text_property schema property = is_text_kind (kind_of schema property)
 abbrev pub is_number_property : List Property → ℕ → Bool
 is_number_property schema property = is_number_kind (kind_of schema property)
 
--- 64 bits signed
-abbrev pub is_integer_value : ℤ → Bool
-is_integer_value n = is_from_to (neg_ℤ (pos 9_223_372_036_854_775_808)) (pos 9_223_372_036_854_775_807) n
-
--- a second of the years 0001 to 9999, counted from 1970
-abbrev pub is_moment_value : ℤ → Bool
-is_moment_value n = is_from_to (neg_ℤ (pos 62_135_596_800)) (pos 253_402_300_799) n
-
 abbrev pub is_same : ℤ → ℤ → Bool
 is_same m n = int_le m n && int_le n m
 
 -- what xrank may add
 abbrev pub is_boost : ℤ → Bool
-is_boost cb = is_from_to (neg_ℤ (pos 1_000_000)) (pos 1_000_000) cb
+is_boost cb = is_from_to (neg_ℤ (pos greatest_boost)) (pos greatest_boost) cb

@@ -6,10 +6,13 @@ pub mod Kinds
 pub mod Kql
 pub mod KqlCopies
 pub mod KqlSound
+pub mod Laws
+pub mod Limits
 pub mod Lists
 pub mod Looked
 pub mod Passages
 pub mod Places
+pub mod Shown
 pub mod Spans
 pub mod Triples
 pub mod Valid

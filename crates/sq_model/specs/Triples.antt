@@ -33,9 +33,9 @@ rises (s ∷ t ∷ rest) = nat_lt s.last t.first && rises (t ∷ rest)
 abbrev pub is_near : ℕ → Triple → Bool
 is_near n s = nat_le (s.last - s.first + 1) (n + s.weight)
 
-abbrev pub in_order : Bool → List Triple → Bool
-in_order ordered chosen = not ordered || rises chosen
+abbrev pub keeps_order : Bool → List Triple → Bool
+keeps_order ordered chosen = not ordered || rises chosen
 
 -- One match of each part, in order where `ordered`, joined, and near one another.
 abbrev pub near : ℕ → Bool → List (List Triple) → List Triple
-near n ordered parts = filter (is_near n) (filter_map (reduce join) (filter (in_order ordered) (choices parts)))
+near n ordered parts = filter (is_near n) (filter_map (reduce join) (filter (keeps_order ordered) (choices parts)))

@@ -23,6 +23,13 @@ pub enum Sign {
     Minus,
 }
 
+/// How the loose operands of a run stand to one another: under `All` every one must hold, under `Any` one of them.
+#[derive(Clone, Copy, Debug, PartialEq, Eq)]
+pub enum Joiner {
+    All,
+    Any,
+}
+
 /// One of the operands that stand side by side.
 #[cycle(kql)]
 #[derive(Drop)]

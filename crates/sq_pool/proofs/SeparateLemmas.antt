@@ -11,7 +11,7 @@ use Rattle.std.specs.Prelude.{sum_by, slice_get, unwrap_or}
 use Rattle.sq_pool.specs.declared.pool.Entry.{Entry}
 use Rattle.sq_pool.specs.SizeClass.{ClassState, IsTaken, slice_at, all_words}
 use Rattle.sq_pool.specs.Region.{slice_words, room_of, empty_state, state_at, joined_from}
-use Rattle.sq_pool.specs.Pool.{Held, words_of, numbers_of, slices_of, free_of, Place, place_from, place_of, word_at, AreSeparate}
+use Rattle.sq_pool.specs.Pool.{Held, words_of, numbers_of, slices_of, free_of, Cell, cell_from, cell_of, word_at, AreSeparate}
 use Rattle.sq_pool.specs.Kept.{held_in, holding_of, Owns, IsPool}
 use Rattle.sq_pool.proofs.ClassLemmas.{get_or-slice, slice_ends}
 use Rattle.sq_pool.proofs.RegionLemmas.{same_or_other, slice_words-suc, get_or-joined}
@@ -26,7 +26,7 @@ pub record Placed (size : ℕ) (numbers : List ℕ) (at : ℕ) : Type 0 where
   pub which_is : which ≡ size + nth
   pub inside : far < slice_words which
   pub sum : at + slice_words size ≡ slice_words which + far
-  pub is : place_from size numbers at ≡ record { size = which; slice = get_or numbers nth 0; at = far }
+  pub is : cell_from size numbers at ≡ record { size = which; slice = get_or numbers nth 0; at = far }
 
 pub placed : (size : ℕ) (numbers : List ℕ) (at : ℕ) → at + slice_words size < slice_words (size + length numbers) → Placed size numbers at
 placed size [] at within = absurd
@@ -40,7 +40,7 @@ placed size (number ∷ numbers) at within = elim (cases_lt at (slice_words size
     which_is = omega arith;
     inside = here;
     sum = omega arith;
-    is = sym (cond_below at (slice_words size) (record { size = size; slice = number; at = at }) (place_from (suc size) numbers (at - slice_words size)) here);
+    is = sym (cond_below at (slice_words size) (record { size = size; slice = number; at = at }) (cell_from (suc size) numbers (at - slice_words size)) here);
   }
   | inr beyond ↦
       let double : slice_words (suc size) ≡ slice_words size + slice_words size = slice_words-suc size in
@@ -55,7 +55,7 @@ placed size (number ∷ numbers) at within = elim (cases_lt at (slice_words size
         inside = rest.inside;
         sum = omega (arith, rest.sum, double, beyond);
         is = sym (cond_above at (slice_words size) (record { size = size; slice = number; at = at })
-            (place_from (suc size) numbers (at - slice_words size)) (record { size = rest.which; slice = get_or numbers rest.nth 0; at = rest.far }) beyond (sym rest.is));
+            (cell_from (suc size) numbers (at - slice_words size)) (record { size = rest.which; slice = get_or numbers rest.nth 0; at = rest.far }) beyond (sym rest.is));
       }
 ]
 
@@ -85,7 +85,7 @@ record Found (slots : List (Option Entry)) (region : List ClassState) (chain at 
   found : get_or slots chain None ≡ Some entry
   less : at < entry.len
   place : Placed 0 entry.slices.items at
-  is : place_of (holding_of slots region) chain at ≡ record { size = place.nth; slice = get_or entry.slices.items place.nth 0; at = place.far }
+  is : cell_of (holding_of slots region) chain at ≡ record { size = place.nth; slice = get_or entry.slices.items place.nth 0; at = place.far }
   inside : place.far < slice_words place.nth
   sum : at ≡ room_of place.nth + place.far
 
@@ -103,9 +103,9 @@ found_at slots region chain at (Some entry) pool here less =
     let place : Placed 0 entry.slices.items at = placed 0 entry.slices.items at (omega (arith, one, all, short, (pool.owns chain entry here).within)) in
     let nth : place.which ≡ place.nth = omega (arith, place.which_is) in
     let words : slice_words place.which ≡ slice_words place.nth = ap slice_words nth in
-    let slices : place_of (holding_of slots region) chain at ≡ place_from 0 entry.slices.items at =
-    ap (λ (o : Option Held). place_from 0 (unwrap_or {T = Held} o (record { words = []; slices = [] })).slices at) (chain_some slots region chain entry here) in
-    let P : ℕ → Place = λ size. record { size = size; slice = get_or entry.slices.items place.nth 0; at = place.far } in
+    let slices : cell_of (holding_of slots region) chain at ≡ cell_from 0 entry.slices.items at =
+    ap (λ (o : Option Held). cell_from 0 (unwrap_or {T = Held} o (record { words = []; slices = [] })).slices at) (chain_some slots region chain entry here) in
+    let P : ℕ → Cell = λ size. record { size = size; slice = get_or entry.slices.items place.nth 0; at = place.far } in
     record {
       entry = entry;
       found = here;
@@ -139,7 +139,7 @@ separate slots region pool = record {
   lies = lies;
   inside = λ chain at less.
       let one : Found slots region chain at = found_at slots region chain at _ pool refl less in
-      subst (λ (place : Place). place.at < slice_words place.size) (sym one.is) one.inside;
+      subst (λ (cell : Cell). cell.at < slice_words cell.size) (sym one.is) one.inside;
   apart = apart;
   slices = λ chain other size differ first second same.
       let one : Entered slots region chain = entered slots region chain _ refl (omega (arith, first)) in
@@ -156,7 +156,7 @@ separate slots region pool = record {
 }
   where
     lies : (chain at : ℕ) → at < length (words_of (holding_of slots region) chain)
-        → word_at (holding_of slots region) (place_of (holding_of slots region) chain at) ≡ Some (get_or (words_of (holding_of slots region) chain) at 0)
+        → word_at (holding_of slots region) (cell_of (holding_of slots region) chain at) ≡ Some (get_or (words_of (holding_of slots region) chain) at 0)
     lies chain at less =
         let one : Found slots region chain at = found_at slots region chain at _ pool refl less in
         let owns : Owns region one.entry = pool.owns chain one.entry one.found in
@@ -168,16 +168,16 @@ separate slots region pool = record {
         (owns_sized region one.entry pool.sized owns) one.place.less (omega arith) one.inside (omega (arith, one.sum, pow_pos one.place.nth))))
 
     apart : (chain other at place : ℕ) → at < length (words_of (holding_of slots region) chain) → place < length (words_of (holding_of slots region) other)
-        → place_of (holding_of slots region) chain at ≡ place_of (holding_of slots region) other place → (chain ≡ other) × (at ≡ place)
+        → cell_of (holding_of slots region) chain at ≡ cell_of (holding_of slots region) other place → (chain ≡ other) × (at ≡ place)
     apart chain other at place less within same =
         let one : Found slots region chain at = found_at slots region chain at _ pool refl less in
         let two : Found slots region other place = found_at slots region other place _ pool refl within in
-        let P : ℕ → ℕ → ℕ → Place = λ size slice far. record { size = size; slice = slice; at = far } in
+        let P : ℕ → ℕ → ℕ → Cell = λ size slice far. record { size = size; slice = slice; at = far } in
         let both : P one.place.nth (get_or one.entry.slices.items one.place.nth 0) one.place.far ≡ P two.place.nth (get_or two.entry.slices.items two.place.nth 0) two.place.far =
         sym one.is ∙ same ∙ two.is in
-        let size : one.place.nth ≡ two.place.nth = ap (λ (p : Place). p.size) both in
-        let slice : get_or one.entry.slices.items one.place.nth 0 ≡ get_or two.entry.slices.items two.place.nth 0 = ap (λ (p : Place). p.slice) both in
-        let far : one.place.far ≡ two.place.far = ap (λ (p : Place). p.at) both in
+        let size : one.place.nth ≡ two.place.nth = ap (λ (p : Cell). p.size) both in
+        let slice : get_or one.entry.slices.items one.place.nth 0 ≡ get_or two.entry.slices.items two.place.nth 0 = ap (λ (p : Cell). p.slice) both in
+        let far : one.place.far ≡ two.place.far = ap (λ (p : Cell). p.at) both in
         let room : room_of one.place.nth ≡ room_of two.place.nth = ap room_of size in (
           elim (same_or_other chain other) [
             | inl equal ↦ equal

@@ -2,17 +2,17 @@
 ghost use Rattle.std.specs.Prelude.{◌≡◌, if◌then◌else◌, pos, map, IfOk};
 ghost use Rattle.sq_model.specs.Lists.{total};
 ghost use Rattle.sq_slow.specs.TextValues.{text_values};
-ghost use Rattle.sq_model.specs.Kql.{holds, gain, boost, operand_boost, is_counted};
+ghost use Rattle.sq_model.specs.Kql.{holds, gain, boost, operand_boost, adds_boost};
 
 use crate::kql_holds::holds;
 use crate::sums::add;
 use crate::text_value::TextValue;
-use sq_model::{Item, KOperand, KTree, Sign};
+use sq_model::{Item, Joiner, KOperand, KTree, Sign};
 use sq_schema::Schema;
 use std::alloc::{AllocError, Global};
 
-fn is_counted(sign: Sign) -> bool
-    ensures { result ≡ is_counted sign }
+fn adds_boost(sign: Sign) -> bool
+    ensures { result ≡ adds_boost sign }
 {
     match sign {
         Sign::Minus => false,
@@ -28,11 +28,12 @@ fn rank_boost(
     texts: &[TextValue],
     ranked: &KTree,
     cb: i64,
+    joiner: Joiner,
 ) -> Result<i64, AllocError>
     requires { texts.now ≡ text_values item.now.values }
-    ensures { IfOk result (λ sum. sum ≡ (if holds schema.now item.now.values ranked.now then cb else pos 0)) }
+    ensures { IfOk result (λ sum. sum ≡ (if holds schema.now item.now.values joiner ranked.now then cb else pos 0)) }
 {
-    let ranked_holds = holds(alloc, schema, item, texts, ranked)?;
+    let ranked_holds = holds(alloc, schema, item, texts, ranked, joiner)?;
     if ranked_holds { Ok(cb) } else { Ok(0) }
 }
 
@@ -44,25 +45,26 @@ fn gain(
     item: &Item,
     texts: &[TextValue],
     tree: &KTree,
+    joiner: Joiner,
 ) -> Result<i64, AllocError>
     requires { texts.now ≡ text_values item.now.values }
-    ensures { IfOk result (λ sum. sum ≡ gain schema.now item.now.values tree.now) }
+    ensures { IfOk result (λ sum. sum ≡ gain schema.now item.now.values joiner tree.now) }
 {
     match tree {
         KTree::Group(inside) => {
-            let sum = gain(alloc, schema, item, texts, inside.get())?;
+            let sum = gain(alloc, schema, item, texts, inside.get(), joiner)?;
             Ok(sum)
         }
         KTree::Run(operands) => {
-            let sum = operand_boosts(alloc, schema, item, texts, operands.as_slice())?;
+            let sum = operand_boosts(alloc, schema, item, texts, operands.as_slice(), joiner)?;
             Ok(sum)
         }
         KTree::And(parts) => {
-            let sum = boosts(alloc, schema, item, texts, parts.as_slice())?;
+            let sum = boosts(alloc, schema, item, texts, parts.as_slice(), joiner)?;
             Ok(sum)
         }
         KTree::Or(parts) => {
-            let sum = boosts(alloc, schema, item, texts, parts.as_slice())?;
+            let sum = boosts(alloc, schema, item, texts, parts.as_slice(), joiner)?;
             Ok(sum)
         }
         KTree::Xrank {
@@ -70,8 +72,8 @@ fn gain(
             ranked,
             cb,
         } => {
-            let own = gain(alloc, schema, item, texts, matched.get())?;
-            let more = rank_boost(alloc, schema, item, texts, ranked.get(), *cb)?;
+            let own = gain(alloc, schema, item, texts, matched.get(), joiner)?;
+            let more = rank_boost(alloc, schema, item, texts, ranked.get(), *cb, joiner)?;
             let sum = add(own, more)?;
             Ok(sum)
         }
@@ -92,13 +94,14 @@ pub fn boost(
     item: &Item,
     texts: &[TextValue],
     tree: &KTree,
+    joiner: Joiner,
 ) -> Result<i64, AllocError>
     requires { texts.now ≡ text_values item.now.values }
-    ensures { IfOk result (λ sum. sum ≡ boost schema.now item.now.values tree.now) }
+    ensures { IfOk result (λ sum. sum ≡ boost schema.now item.now.values joiner tree.now) }
 {
-    let tree_holds = holds(alloc, schema, item, texts, tree)?;
+    let tree_holds = holds(alloc, schema, item, texts, tree, joiner)?;
     if tree_holds {
-        let sum = gain(alloc, schema, item, texts, tree)?;
+        let sum = gain(alloc, schema, item, texts, tree, joiner)?;
         Ok(sum)
     } else {
         Ok(0)
@@ -112,13 +115,14 @@ fn boosts(
     item: &Item,
     texts: &[TextValue],
     parts: &[KTree],
+    joiner: Joiner,
 ) -> Result<i64, AllocError>
     requires { texts.now ≡ text_values item.now.values }
-    ensures { IfOk result (λ sum. sum ≡ total (map (boost schema.now item.now.values) parts.now)) }
+    ensures { IfOk result (λ sum. sum ≡ total (map (boost schema.now item.now.values joiner) parts.now)) }
 {
     let mut sum = 0;
     for part in parts {
-        let more = boost(alloc, schema, item, texts, part)?;
+        let more = boost(alloc, schema, item, texts, part, joiner)?;
         sum = add(sum, more)?;
     }
     Ok(sum)
@@ -131,12 +135,13 @@ fn operand_boost(
     item: &Item,
     texts: &[TextValue],
     operand: &KOperand,
+    joiner: Joiner,
 ) -> Result<i64, AllocError>
     requires { texts.now ≡ text_values item.now.values }
-    ensures { IfOk result (λ sum. sum ≡ operand_boost schema.now item.now.values operand.now) }
+    ensures { IfOk result (λ sum. sum ≡ operand_boost schema.now item.now.values joiner operand.now) }
 {
-    if is_counted(operand.sign) {
-        let sum = boost(alloc, schema, item, texts, &operand.tree)?;
+    if adds_boost(operand.sign) {
+        let sum = boost(alloc, schema, item, texts, &operand.tree, joiner)?;
         Ok(sum)
     } else {
         Ok(0)
@@ -150,13 +155,14 @@ fn operand_boosts(
     item: &Item,
     texts: &[TextValue],
     operands: &[KOperand],
+    joiner: Joiner,
 ) -> Result<i64, AllocError>
     requires { texts.now ≡ text_values item.now.values }
-    ensures { IfOk result (λ sum. sum ≡ total (map (operand_boost schema.now item.now.values) operands.now)) }
+    ensures { IfOk result (λ sum. sum ≡ total (map (operand_boost schema.now item.now.values joiner) operands.now)) }
 {
     let mut sum = 0;
     for operand in operands {
-        let more = operand_boost(alloc, schema, item, texts, operand)?;
+        let more = operand_boost(alloc, schema, item, texts, operand, joiner)?;
         sum = add(sum, more)?;
     }
     Ok(sum)

@@ -7,11 +7,11 @@ ghost use Rattle.sq_model.specs.Kql.{triples, somewhere, holds, judge};
 
 use crate::kql_spans::triples;
 use crate::restrictions::{text_test, value_test};
-use crate::runs::{restricted, run_holds};
+use crate::runs::run_holds;
 use crate::seen::searchable;
 use crate::text_value::TextValue;
 use sq_base::List;
-use sq_model::{Item, Judged, KOperand, KTree};
+use sq_model::{Item, Joiner, Judged, KOperand, KTree, role_of};
 use sq_schema::Schema;
 use std::alloc::{AllocError, Global};
 
@@ -63,9 +63,10 @@ pub fn holds(
     item: &Item,
     texts: &[TextValue],
     tree: &KTree,
+    joiner: Joiner,
 ) -> Result<bool, AllocError>
     requires { texts.now ≡ text_values item.now.values }
-    ensures { IfOk result (λ b. b ≡ holds schema.now item.now.values tree.now) }
+    ensures { IfOk result (λ b. b ≡ holds schema.now item.now.values joiner tree.now) }
 {
     match tree {
         KTree::All => Ok(true),
@@ -73,7 +74,7 @@ pub fn holds(
             alloc, schema, item, texts, tree,
         ),
         KTree::Group(inside) => {
-            let inside_holds = holds(alloc, schema, item, texts, inside.get())?;
+            let inside_holds = holds(alloc, schema, item, texts, inside.get(), joiner)?;
             Ok(inside_holds)
         }
         KTree::TextTest {
@@ -88,14 +89,14 @@ pub fn holds(
             last,
         } => value_test(alloc, item, *property, *relation, *first, *last),
         KTree::Run(operands) => {
-            let run = judge_each(alloc, schema, item, texts, operands.as_slice())?;
+            let run = judge_each(alloc, schema, item, texts, operands.as_slice(), joiner)?;
             let run = run.as_slice();
-            Ok(run_holds(run))
+            Ok(run_holds(run, joiner))
         }
-        KTree::And(parts) => all_hold(alloc, schema, item, texts, parts.as_slice()),
-        KTree::Or(parts) => some_hold(alloc, schema, item, texts, parts.as_slice()),
+        KTree::And(parts) => all_hold(alloc, schema, item, texts, parts.as_slice(), joiner),
+        KTree::Or(parts) => some_hold(alloc, schema, item, texts, parts.as_slice(), joiner),
         KTree::Xrank { matched, .. } => {
-            let matched_holds = holds(alloc, schema, item, texts, matched.get())?;
+            let matched_holds = holds(alloc, schema, item, texts, matched.get(), joiner)?;
             Ok(matched_holds)
         }
     }
@@ -108,16 +109,17 @@ fn judge_each(
     item: &Item,
     texts: &[TextValue],
     operands: &[KOperand],
+    joiner: Joiner,
 ) -> Result<List<Judged>, AllocError>
     requires { texts.now ≡ text_values item.now.values }
-    ensures { IfOk result (λ run. run ≡ map (judge schema.now item.now.values) operands.now) }
+    ensures { IfOk result (λ run. run ≡ map (judge schema.now item.now.values joiner) operands.now) }
 {
     let mut run = List::new(alloc);
     for operand in operands {
-        let operand_holds = holds(alloc, schema, item, texts, &operand.tree)?;
+        let operand_holds = holds(alloc, schema, item, texts, &operand.tree, joiner)?;
         run.push(Judged {
             sign: operand.sign,
-            property: restricted(operand.sign, &operand.tree),
+            role: role_of(operand.sign, &operand.tree),
             holds: operand_holds,
         })?;
     }
@@ -131,12 +133,13 @@ fn all_hold(
     item: &Item,
     texts: &[TextValue],
     parts: &[KTree],
+    joiner: Joiner,
 ) -> Result<bool, AllocError>
     requires { texts.now ≡ text_values item.now.values }
-    ensures { IfOk result (λ b. b ≡ list_all (holds schema.now item.now.values) parts.now) }
+    ensures { IfOk result (λ b. b ≡ list_all (holds schema.now item.now.values joiner) parts.now) }
 {
     for part in parts {
-        if !holds(alloc, schema, item, texts, part)? {
+        if !holds(alloc, schema, item, texts, part, joiner)? {
             return Ok(false);
         }
     }
@@ -150,12 +153,13 @@ fn some_hold(
     item: &Item,
     texts: &[TextValue],
     parts: &[KTree],
+    joiner: Joiner,
 ) -> Result<bool, AllocError>
     requires { texts.now ≡ text_values item.now.values }
-    ensures { IfOk result (λ b. b ≡ list_any (holds schema.now item.now.values) parts.now) }
+    ensures { IfOk result (λ b. b ≡ list_any (holds schema.now item.now.values joiner) parts.now) }
 {
     for part in parts {
-        if holds(alloc, schema, item, texts, part)? {
+        if holds(alloc, schema, item, texts, part, joiner)? {
             return Ok(true);
         }
     }

@@ -12,7 +12,7 @@ use Rattle.sq_schema.specs.declared.property.Property.{Property}
 use Rattle.sq_schema.specs.Properties.{has_name}
 use Rattle.sq_model.specs.Copies.{copies}
 use Rattle.sq_model.specs.Kinds.{kind_of, is_number_property, is_boost}
-use Rattle.sq_model.specs.Valid.{is_from_to}
+use Rattle.sq_schema.specs.Bounds.{is_from_to}
 use Rattle.sq_model.specs.FqlSound.{is_look, SpansSound, SomeSpansSound, EachSpansSound, PartsSound, SomeSound, EachSound}
 use Rattle.sq_model.specs.declared.leaf.Leaf.{Leaf}
 use Rattle.sq_model.specs.declared.fql.Look.{Look}

@@ -6,7 +6,8 @@ use Rattle.sq_schema.specs.declared.property.Kind.{Kind}
 use Rattle.sq_schema.specs.declared.property.Kind.TheVariants as kind
 use Rattle.sq_schema.specs.declared.property.Property.{Property}
 use Rattle.sq_schema.specs.Dates.{is_date, day_number, day_of, interval_of_day, interval_of}
-use Rattle.sq_schema.specs.Intervals.{year_from, month_from, interval_in, moment_interval, whole_days}
+use Rattle.sq_schema.specs.Civil.{civil_of_day, year_from, month_from}
+use Rattle.sq_schema.specs.Intervals.{interval_in, moment_interval, whole_days}
 use Rattle.sq_schema.specs.Properties.{has_name}
 use Rattle.sq_schema.specs.Shapes.{begins_with, two_digits}
 use Rattle.sq_schema.specs.Values.{is_numeral, behind_minus, number_of, yes_no_of}
@@ -45,7 +46,7 @@ restrictions = tt
 -- what unfolds where a day is read
 unfoldable days : Unit {0}
 unfolding moment_value interval_of day_of begins_with two_digits day_number is_date interval_of_day whole_days days_from_civil day_count days_of_years days_of_months
-    weekday_number moment_interval year_from month_from interval_in
+    weekday_number moment_interval civil_of_day year_from month_from interval_in
 days = tt
 
 abbrev property : List ℕ → Kind → Property

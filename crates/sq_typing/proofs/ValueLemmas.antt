@@ -1,9 +1,8 @@
 -- The tests that restrictions are have values of their kinds.
-use Rattle.std.proofs.Common.{◌≡◌, ℕ, ◌^◌, ◌≤◌, ◌<◌, ◌≤ℤ◌, Bool, true, false, ◌&&◌, List, Option, Some, None, ℤ, pos, neg_ℤ, refl, arith}
-use Rattle.std.specs.Prelude.{Result, Ok, Err, IfOk, IfSome, unsigned_abs, option_map, nat_le, nat_lt, int_le, if◌then◌else◌}
+use Rattle.std.proofs.Common.{◌≡◌, ℕ, ◌≤◌, ◌<◌, ◌≤ℤ◌, Bool, true, false, ◌&&◌, List, Option, Some, None, ℤ, pos, neg_ℤ, refl, arith}
+use Rattle.std.specs.Prelude.{Result, Ok, Err, IfOk, IfSome, unsigned_abs, option_map, int_le, if◌then◌else◌}
 use Rattle.std.specs.Option.{option_or}
 use Rattle.std.proofs.lemmas.Int.{ints}
-use Rattle.std.proofs.lemmas.Bool.Decides.{nat_tests}
 use Rattle.sq_schema.specs.declared.interval.Interval.{Interval}
 use Rattle.sq_schema.specs.declared.values.NumberFault.{NumberFault}
 use Rattle.sq_schema.specs.declared.values.NumberFault.TheVariants.{Shape, Range}
@@ -12,8 +11,8 @@ use Rattle.sq_schema.specs.Intervals.{moment_interval}
 use Rattle.sq_schema.specs.Moments.{IsInYears}
 use Rattle.sq_schema.specs.Values.{number_of, signed_64, is_numeral, behind_minus, yes_no_of}
 use Rattle.std.specs.Str.Parse.{starts_with_minus, digits_value}
-use Rattle.sq_model.specs.Kinds.{is_integer_value, is_moment_value, is_same, is_boost}
-use Rattle.sq_model.specs.Valid.{is_from_to}
+use Rattle.sq_model.specs.Kinds.{is_same, is_boost}
+use Rattle.sq_schema.specs.Bounds.{is_from_to, is_integer_value, is_moment_value}
 use Rattle.sq_base.specs.Outcome.{or_refused}
 use Rattle.sq_kql.specs.declared.raw.Piece.{Piece}
 use Rattle.sq_typing.specs.KqlValues.{number_at, number_value, moment_value, yes_no_number, yes_no_value, from_to, bounds}
@@ -49,21 +48,14 @@ pub record AreNumbers (i : Interval) : Type 0 where
 abbrev FitsInteger : Result ℤ NumberFault → Type 0
 FitsInteger r = IfOk r (λ n. is_integer_value n ≡ true)
 
-down : (size : ℕ) (b : Bool) → nat_le size (2 ^ 63) ≡ b → FitsInteger (if b then Ok (neg_ℤ (pos size)) else Err Range)
-down size true e =
-    let bound : size ≤ 9_223_372_036_854_775_808 = grind (arith, nat_tests) in
-    from_to_is (neg_ℤ (pos 9_223_372_036_854_775_808)) (pos 9_223_372_036_854_775_807) (neg_ℤ (pos size)) (omega (arith, ints)) (omega (arith, ints))
-down size false e = tt
-
-up : (size : ℕ) (b : Bool) → nat_lt size (2 ^ 63) ≡ b → FitsInteger (if b then Ok (pos size) else Err Range)
-up size true e =
-    let bound : size < 9_223_372_036_854_775_808 = grind (arith, nat_tests) in
-    from_to_is (neg_ℤ (pos 9_223_372_036_854_775_808)) (pos 9_223_372_036_854_775_807) (pos size) (omega (arith, ints)) (omega (arith, ints))
-up size false e = tt
+fitting_fits : (b : Bool) (n : ℤ) → is_integer_value n ≡ b → FitsInteger (if b then Ok n else Err Range)
+fitting_fits true n e = e
+fitting_fits false n e = tt
 
 signed_fits : (negative : Bool) (size : ℕ) → FitsInteger (signed_64 negative size)
-signed_fits true size = down size (nat_le size (2 ^ 63)) refl
-signed_fits false size = up size (nat_lt size (2 ^ 63)) refl
+signed_fits negative size =
+    let n : ℤ = if negative then neg_ℤ (pos size) else pos size in
+    fitting_fits (is_integer_value n) n refl
 
 either_fits : (b : Bool) (x : Result ℤ NumberFault) → FitsInteger x → FitsInteger (if b then x else Err Shape)
 either_fits true x h = h

@@ -1,10 +1,11 @@
 -- The numbers that a scope of another kind than Text asks for. [MS-FQL2]
-use Rattle.std.specs.Prelude.{ℕ, List, [], ◌∷◌, Bool, true, false, if◌then◌else◌, codes, option_map, Result, Ok, Err, ℤ, pos, neg_ℤ, ◌+ℤ◌, ◌-ℤ◌, int_le}
+use Rattle.std.specs.Prelude.{ℕ, List, [], ◌∷◌, Bool, true, false, if◌then◌else◌, codes, option_map, Result, Ok, Err, ℤ, pos, ◌+ℤ◌, ◌-ℤ◌, int_le}
 use Rattle.std.specs.Str.{bytes_eq}
 use Rattle.sq_schema.specs.declared.property.Property.{Property}
 use Rattle.sq_schema.specs.declared.interval.Interval.{Interval}
 use Rattle.sq_schema.specs.declared.values.NumberFault.{NumberFault}
 use Rattle.sq_schema.specs.declared.values.NumberFault.TheVariants.{Shape, Range}
+use Rattle.sq_schema.specs.Bounds.{least_number, greatest_number}
 use Rattle.sq_schema.specs.Dates.{interval_of}
 use Rattle.sq_schema.specs.Intervals.{single}
 use Rattle.sq_schema.specs.Values.{number_of, yes_no_of}
@@ -63,13 +64,6 @@ literal_value m at o operands = if reads m o then read_only (value_in m) (only_l
 
 -- ---- range
 
--- the least and the greatest number of 64 bits signed
-abbrev pub first_number : ℤ
-first_number = neg_ℤ (pos 9_223_372_036_854_775_808)
-
-abbrev pub last_number : ℤ
-last_number = pos 9_223_372_036_854_775_807
-
 abbrev pub is_literal : List ℕ → FRaw → Bool
 is_literal text (Literal p) = bytes_eq p.text text
 is_literal text _ = false
@@ -82,10 +76,10 @@ bound schema m (Scope' at name s inner) = Err (misplaced schema WRONG_OPERATOR a
 bound schema m (Apply' at o s operands) = literal_value m at o (listed operands)
 
 unfoldable pub lower_bound : List Property → Measure → FRaw → Outcome Interval
-lower_bound schema m operand = if is_literal (codes "min") operand then Ok (single first_number) else bound schema m operand
+lower_bound schema m operand = if is_literal (codes "min") operand then Ok (single least_number) else bound schema m operand
 
 unfoldable pub upper_bound : List Property → Measure → FRaw → Outcome Interval
-upper_bound schema m operand = if is_literal (codes "max") operand then Ok (single last_number) else bound schema m operand
+upper_bound schema m operand = if is_literal (codes "max") operand then Ok (single greatest_number) else bound schema m operand
 
 -- the first number that isn't below a lower bound, or above it
 abbrev pub first_from : Bool → Interval → ℤ

@@ -1,6 +1,7 @@
 //! The numbers that the scope of a property of another kind than Text asks for.
 
 ghost use Rattle.std.specs.Prelude.{◌≡◌, ◌<ℤ◌, MatchOption};
+ghost use Rattle.sq_schema.specs.Bounds as bounds;
 ghost use Rattle.sq_typing.specs.FqlNumbers as spec;
 ghost use Rattle.sq_typing.specs.Together.{mapped};
 
@@ -136,7 +137,7 @@ fn upper_bound(schema: &Schema, measure: Measure, operand: &FRaw) -> Result<Inte
 
 /// The first number that isn't below a lower bound, or above it, if 64 bits have it.
 fn first_from(above: bool, lower: Interval) -> Option<i64>
-    ensures { MatchOption result (spec.last_number <ℤ spec.first_from above lower) (λ n. n ≡ spec.first_from above lower) }
+    ensures { MatchOption result (bounds.greatest_number <ℤ spec.first_from above lower) (λ n. n ≡ spec.first_from above lower) }
 {
     if above {
         lower.last.checked_add(1)
@@ -147,7 +148,7 @@ fn first_from(above: bool, lower: Interval) -> Option<i64>
 
 /// The last number that isn't above an upper bound, or below it, if 64 bits have it.
 fn last_to(below: bool, upper: Interval) -> Option<i64>
-    ensures { MatchOption result (spec.last_to below upper <ℤ spec.first_number) (λ n. n ≡ spec.last_to below upper) }
+    ensures { MatchOption result (spec.last_to below upper <ℤ bounds.least_number) (λ n. n ≡ spec.last_to below upper) }
 {
     if below {
         upper.first.checked_sub(1)

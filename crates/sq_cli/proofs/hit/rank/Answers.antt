@@ -1,6 +1,6 @@
 use Rattle.std.proofs.Common.{rules}
 use Rattle.std.proofs.lemmas.List.Sorted.{answers_always}
-use Rattle.sq_base.proofs.OrderLemmas.{in_order-sorted}
+use Rattle.sq_base.proofs.SortingLemmas.{in_order-sorted}
 use Rattle.sq_cli.specs.Answer.{comes_before}
 use Rattle.sq_cli.proofs.HitLemmas.{comes_before-order, same_hit}
 use Rattle.sq_cli.proofs.hit.rank.Goals as goal

@@ -21,12 +21,13 @@ returns-in-Err-clause-reads c =
 
 pub returns-clause-valid : goal.returns-clause-valid
 returns-clause-valid c =
-    answer_valid c.args.bytes.now c.end_of.result c.requires
+    answer_valid c.spelled_corpora_are_valid.ensures c.args.bytes.now c.end_of.result c.requires
     (reads_end c.loop-line.number c.loop-line.reader.before c.loop-line.rest.now c.args.bytes.now c.end_of.result
     c.in_default.ensures c.loop-line.invariant.0 c.end_of.ensures)
 
 pub returns-clause-short : goal.returns-clause-short
 returns-clause-short c =
-    answer_short c.args.bytes.now c.end_of.result c.requires
+    answer_short c.valid_texts_are_short.ensures c.end_of.result
+    (answer_valid c.spelled_corpora_are_valid.ensures c.args.bytes.now c.end_of.result c.requires
     (reads_end c.loop-line.number c.loop-line.reader.before c.loop-line.rest.now c.args.bytes.now c.end_of.result
-    c.in_default.ensures c.loop-line.invariant.0 c.end_of.ensures)
+    c.in_default.ensures c.loop-line.invariant.0 c.end_of.ensures))

@@ -13,6 +13,6 @@ loop-c-preserved c =
           held.0 cut c.in_ok-push_escaped.ensures held.1,
     )
 
-pub returns-clause-spelled : goal.returns-clause-spelled
-returns-clause-spelled c =
+pub returns : goal.returns
+returns c =
     end-spelled (string_bytes c.loop-c.out) _ (chars_rest c.loop-c.c-iterator) c.in-None.ensures.steps.0.0 c.loop-c.invariant.1

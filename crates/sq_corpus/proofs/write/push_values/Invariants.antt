@@ -1,8 +1,7 @@
-use Rattle.std.proofs.Common.{drop, string_bytes}
-use Rattle.sq_corpus.specs.Written.{AreRowTexts}
-use Rattle.sq_corpus.proofs.WriteLemmas.{Continues}
+use Rattle.std.proofs.Common.{◌≡◌, ◌++◌, drop, string_bytes}
+use Rattle.sq_corpus.specs.Written.{row_lines}
 use Rattle.sq_corpus.proofs.write.push_values.Given as goal
 
 abbrev pub invariant-loop-row : goal.invariant-loop-row
 invariant-loop-row l =
-    Continues (AreRowTexts l.values l.row (drop l.row l.schema)) (AreRowTexts l.values 0 l.schema) (string_bytes l.fn.out) (string_bytes l.out)
+    string_bytes l.out ++ row_lines l.values l.row (drop l.row l.schema) ≡ string_bytes l.fn.out ++ row_lines l.values 0 l.schema

@@ -1,0 +1,12 @@
+mod AlikeLemmas
+mod BodyLemmas
+mod DigitsLemmas
+mod Examples
+mod ExchangeLemmas
+mod FieldsLemmas
+mod GathersLemmas
+mod HeadLemmas
+mod KnownLemmas
+mod PutsLemmas
+mod ServeLemmas
+mod StepLemmas

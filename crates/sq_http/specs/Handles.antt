@@ -1,0 +1,11 @@
+-- What a handler answers.
+use Rattle.std.specs.Prelude.{◌≡◌, ℕ, List, Option, Some, None, Result, Ok, Err, Vec}
+use Rattle.std.specs.Global.{Global}
+use Rattle.sq_http.specs.declared.answer.Handled.{Handled}
+use Rattle.sq_http.specs.declared.answer.Handled.TheVariants as handled
+
+-- A handler answers its reply. Want of memory may come in its place.
+abbrev pub Handles : Option (List ℕ) → Result (Vec ℕ Global) Handled → Type 0
+Handles reply (Ok bytes) = reply ≡ Some bytes.items
+Handles reply (Err handled.UnknownCaller) = reply ≡ None
+Handles reply (Err handled.NoMemory) = Unit {0}

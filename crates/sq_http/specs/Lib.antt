@@ -1,0 +1,13 @@
+pub mod Alike
+pub mod Body
+pub mod Cut
+pub mod Exchange
+pub mod Fields
+pub mod Gathers
+pub mod Handles
+pub mod Heading
+pub mod Judge
+pub mod Owed
+pub mod Replies
+pub mod Served
+pub mod Puts

@@ -1,0 +1,6 @@
+mod DenseLemmas
+mod LeastNear
+mod LeastUnion
+mod PlanLaw
+mod WeightsSplit
+mod WidthLemmas

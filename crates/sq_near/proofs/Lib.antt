@@ -1,0 +1,12 @@
+mod BaseLemmas
+mod CoverLemmas
+mod FindLemmas
+mod HeadLemmas
+mod JoinLemmas
+mod LawLemmas
+mod MergeLemmas
+mod PairLemmas
+mod PartLemmas
+mod PassLemmas
+mod SweepLemmas
+mod TurnLemmas

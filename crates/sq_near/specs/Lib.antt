@@ -1,0 +1,5 @@
+pub mod Covers
+pub mod Laws
+pub mod Least
+pub mod Moves
+pub mod Streams
