@@ -3,7 +3,6 @@ use Rattle.std.proofs.Common.{◌≡◌, ℕ, zero, suc, ◌+◌, ◌-◌, ◌<�
 use Rattle.std.specs.List.{flat_map, list_all}
 use Rattle.std.proofs.lemmas.Str.{chars_past_char, chars-nil, encodes-append}
 use Rattle.std.proofs.lemmas.List.{take_all, drop_all}
-use Rattle.std.proofs.lemmas.Bool.{false_from_ne_true}
 use Rattle.std.proofs.lemmas.Bool.Decides.{nat_tests}
 use Rattle.std.proofs.lemmas.List.Concat.{flat_map-cons}
 use Rattle.sq_schema.specs.declared.property.Property.{Property}
@@ -90,20 +89,6 @@ step-kept f property xs x then now whole some is of added kept =
     ∙ append_assoc then (f x) (flat_map f rest)
     ∙ ap (λ t. then ++ t) (sym (ap (flat_map f) split ∙ flat_map-cons f x rest))
     ∙ kept
-
-passed-at : (t : Bool) (x : Value) (others : List Value) → t ≡ false → cond t (x ∷ others) others ≡ others
-passed-at true x others e = cc
-passed-at false x others e = refl
-
--- a value of another property does not
-pub step-passed : (f : Value → List ℕ) (property : ℕ) (xs : List Value) (x : Value) (now whole : List ℕ)
-    → 1 ≤ length xs → x ≡ get_or xs 0 x → (x.property ≡ property → ⊥) → now ++ flat_map f (filter (is_at property) xs) ≡ whole
-    → now ++ flat_map f (filter (is_at property) (take (length xs - 1) (drop 1 xs))) ≡ whole
-step-passed f property xs x now whole some is other kept =
-    let rest : List Value = filter (is_at property) (take (length xs - 1) (drop 1 xs)) in
-    let test : is_at property x ≡ false = false_from_ne_true (is_at property x) (λ e. other (grind (arith, nat_tests, e))) in
-    let split : filter (is_at property) xs ≡ rest = ap (filter (is_at property)) (first-and-rest xs x some is) ∙ passed-at (is_at property x) x rest test in
-    ap (λ values. now ++ flat_map f values) (sym split) ∙ kept
 
 pub ends-kept : (f : Value → List ℕ) (property : ℕ) (xs : List Value) (now whole : List ℕ)
     → length xs < 1 → now ++ flat_map f (filter (is_at property) xs) ≡ whole → now ≡ whole

@@ -4,7 +4,7 @@ use Rattle.std.specs.Prelude.{nat_lt, nat_le}
 use Rattle.std.specs.List.{fold, reduce}
 use Rattle.std.proofs.lemmas.Bool.{ltb-true, lt-ltb, leb-true, le-leb}
 use Rattle.sq_least.specs.Dense.{Within}
-use Rattle.sq_least.specs.Laws.{Inside, IsLeast, AreLeast, OneWeightEach, NearOfLeast}
+use Rattle.sq_least.specs.Laws.{Inside, IsLeast, LeastInside, AreLeast, OneWeightEach, NearOfLeast}
 use Rattle.sq_model.proofs.Members.{IsIn}
 use Rattle.sq_model.specs.Triples.{join, rises, keeps_order, is_near, near}
 use Rattle.sq_model.specs.declared.triple.Triple.{Triple}
@@ -65,6 +65,9 @@ least_of matches t h =
     let r = least_below matches t in
     let P : Triple → Type 0 = λ v. IsIn v matches in
     (r.found, record { here = elim r.is_in [ inl e ↦ subst P (sym e) h | inr k ↦ k ]; least = r.least }, r.inside)
+
+pub least_inside : LeastInside
+least_inside = least_of
 
 -- ---- a choice of least matches inside a choice
 

@@ -59,6 +59,10 @@ pub record IsLeast (matches : List Triple) (t : Triple) : Type 0 where
   pub here : IsIn t matches
   pub least : (u : Triple) → IsIn u matches → Inside u t → Inside t u
 
+-- Each match has a least one inside.
+abbrev pub LeastInside : Type 0
+LeastInside = (matches : List Triple) (t : Triple) → IsIn t matches → (u : Triple) × IsLeast matches u × Inside u t
+
 -- of each list, the other has the least matches
 abbrev pub AreLeast : List (List Triple) → List (List Triple) → Type 0
 AreLeast [] [] = Unit {0}

@@ -1,10 +1,15 @@
 ghost use Rattle.sq_least.specs.Dense.{DenseChain, DenseNear, DenseSums, DenseUnion, LeastOfDense, WeightsOfMatches};
-ghost use Rattle.sq_least.specs.Laws.{LeastOfUnion, NearOfLeast, NearSplitsByWeight, WidthCountsWeights};
+ghost use Rattle.sq_least.specs.Laws.{LeastInside, LeastOfUnion, NearOfLeast, NearSplitsByWeight, WidthCountsWeights};
 ghost use Rattle.sq_least.specs.Plan.{LeastByWeight};
 
 /// The matches of a near, by the weights of its parts.
 pub fn near_splits_by_weight()
     ensures { NearSplitsByWeight }
+{}
+
+/// Each match has a least one inside.
+pub fn least_inside()
+    ensures { LeastInside }
 {}
 
 /// A near of least matches, each part's of one weight, has the same least matches.

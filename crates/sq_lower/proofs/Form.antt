@@ -5,10 +5,11 @@ use Rattle.sq_schema.specs.declared.property.Kind.{Kind}
 use Rattle.sq_schema.specs.declared.property.Kind.TheVariants as kind
 use Rattle.sq_schema.specs.declared.property.Property.{Property}
 use Rattle.sq_schema.specs.Intervals.{single}
-use Rattle.sq_model.specs.Kql.{restricted}
+use Rattle.sq_model.specs.Kql.{role}
 use Rattle.sq_model.specs.declared.leaf.Leaf.{Leaf}
 use Rattle.sq_model.specs.declared.kql.Relation.{Relation}
 use Rattle.sq_model.specs.declared.kql.Relation.TheVariants as relation
+use Rattle.sq_model.specs.declared.kql.Joiner.{Joiner}
 use Rattle.sq_model.specs.declared.kql.KTree.{KTree, Free, All, Words, Group', TextTest, ValueTest, Near', Run', And', Or', Xrank', Row_of-KTree, end_of-KTree, more_of-KTree, Row_of-KOperand, end_of-KOperand, more_of-KOperand}
 use Rattle.sq_model.specs.declared.fql.Look.TheVariants.{Searchable, One}
 use Rattle.sq_model.specs.declared.fql.SpanTree.{SpanTree}
@@ -17,7 +18,7 @@ use Rattle.sq_model.specs.declared.fql.FTree.{FTree}
 use Rattle.sq_model.specs.declared.fql.FTree.TheVariants as f
 use Rattle.sq_schema.specs.Bounds.{least_number, greatest_number}
 use Rattle.sq_typing.specs.FqlNumbers.{between, within}
-use Rattle.sq_lower.specs.Runs.{Joins, Form, run_form}
+use Rattle.sq_lower.specs.Runs.{Connectives, Form, run_form}
 
 abbrev mutual
   -- a proximity expression
@@ -59,10 +60,10 @@ abbrev pub value_tree_of : ℕ → Option Property → Relation → ℤ → ℤ 
 value_tree_of property None r first last = f.All
 value_tree_of property (Some row) r first last = value_tree property row.kind r first last
 
-abbrev pub tree_joins : Joins FTree
-tree_joins = record { all = f.And; any = f.Or; negated = f.Not; without = f.AndNot }
+abbrev pub tree_connectives : Connectives FTree
+tree_connectives = record { all = f.And; any = f.Or; negated = f.Not; without = f.AndNot }
 
-module _ (schema : List Property) where
+module _ (schema : List Property) (joiner : Joiner) where
   abbrev mutual
     pub form : KTree → FTree
     form (Free leaf) = f.Spans Searchable (s.Leaf leaf)
@@ -72,7 +73,7 @@ module _ (schema : List Property) where
     form (TextTest property r leaf) = text_tree property r leaf
     form (ValueTest property r first last) = value_tree_of property (slice_get schema property) r first last
     form (Near' p left q right n ordered) = f.Spans Searchable (spans (Near' p left q right n ordered))
-    form (Run' shape operands) = run_form tree_joins (operand_forms operands)
+    form (Run' shape operands) = run_form tree_connectives joiner (operand_forms operands)
     form (And' shape parts) = f.And (form_each parts)
     form (Or' shape parts) = f.Or (form_each parts)
     form (Xrank' p (more_of-KTree matched end_of-KTree) q ranked cb) = f.Xrank (form matched) (form_each ranked) cb
@@ -83,4 +84,4 @@ module _ (schema : List Property) where
 
     pub operand_forms : {m : _} → Row_of-KOperand m → List (Form FTree)
     operand_forms end_of-KOperand = []
-    operand_forms (more_of-KOperand sign tree rest) = record { sign = sign; property = restricted sign tree; form = form tree } ∷ operand_forms rest
+    operand_forms (more_of-KOperand sign tree rest) = record { sign = sign; role = role sign tree; form = form tree } ∷ operand_forms rest

@@ -8,6 +8,7 @@ use Rattle.std.proofs.lemmas.Bool.{eqb-true, eq-eqb, false≢true, true≢false}
 use Rattle.std.proofs.lemmas.List.{append-nil, map-append}
 use Rattle.std.proofs.lemmas.List.Elements.{filter-append}
 use Rattle.indexmap.specs.IndexMap.{insert_entry}
+use Rattle.sq_model.specs.Kql.{restricted}
 use Rattle.sq_lower.specs.Runs.{Form, restricts, forms_of, properties}
 
 -- ---- lists of numbers
@@ -87,14 +88,14 @@ cons_put (Some q) ks p = by (nat_eq q p) refl
         ∙ ap (λ b. cond (b || has p (others q ks)) (q ∷ others q ks) (q ∷ (others q ks ++ p ∷ []))) (sym (turned q p false e)))
 
 module _ {A : Type 0} where
-  pub properties_more : (run : List (Form A)) (o : Form A) (p : ℕ) → o.property ≡ Some p → properties (run ++ o ∷ []) ≡ put (properties run) p
+  pub properties_more : (run : List (Form A)) (o : Form A) (p : ℕ) → (restricted o.role) ≡ Some p → properties (run ++ o ∷ []) ≡ put (properties run) p
   properties_more [] o p is = ap (λ x. cons_option x []) is
   properties_more (r ∷ run) o p is =
-      ap (λ ks. cons_option r.property (filter (differs r.property) ks)) (properties_more run o p is) ∙ cons_put r.property (properties run) p
+      ap (λ ks. cons_option (restricted r.role) (filter (differs (restricted r.role)) ks)) (properties_more run o p is) ∙ cons_put (restricted r.role) (properties run) p
 
-  pub properties_same : (run : List (Form A)) (o : Form A) → o.property ≡ None → properties (run ++ o ∷ []) ≡ properties run
+  pub properties_same : (run : List (Form A)) (o : Form A) → (restricted o.role) ≡ None → properties (run ++ o ∷ []) ≡ properties run
   properties_same [] o is = ap (λ x. cons_option x []) is
-  properties_same (r ∷ run) o is = ap (λ ks. cons_option r.property (filter (differs r.property) ks)) (properties_same run o is)
+  properties_same (r ∷ run) o is = ap (λ ks. cons_option (restricted r.role) (filter (differs (restricted r.role)) ks)) (properties_same run o is)
 
   pub forms_of_more : (test : Form A → Bool) (run : List (Form A)) (o : Form A) → forms_of test (run ++ o ∷ []) ≡ forms_of test run ++ forms_of test (o ∷ [])
   forms_of_more test run o = ap (map (λ o. o.form)) (filter-append test run (o ∷ [])) ∙ map-append (λ o. o.form) (filter test run) (filter test (o ∷ []))
@@ -155,7 +156,7 @@ distinct_cons (Some q) ks d = (has_gone q ks, distinct_filter (λ k. not (nat_eq
 
 distinct_properties : {A : Type 0} (run : List (Form A)) → Distinct (properties run)
 distinct_properties [] = tt
-distinct_properties (r ∷ run) = distinct_cons r.property (properties run) (distinct_properties run)
+distinct_properties (r ∷ run) = distinct_cons (restricted r.role) (properties run) (distinct_properties run)
 
 -- a property that isn't seen has no forms
 not_seen_first : (x : Option ℕ) (p : ℕ) (ks : List ℕ) → has p (cons_option x (filter (differs x) ks)) ≡ false → (option_eq nat_eq x (Some p) ≡ false) × (has p ks ≡ false)
@@ -167,7 +168,7 @@ not_seen_first (Some q) p ks h =
 not_seen : {A : Type 0} (run : List (Form A)) (p : ℕ) → has p (properties run) ≡ false → forms_of (restricts p) run ≡ []
 not_seen [] p h = refl
 not_seen (r ∷ run) p h =
-    let first = not_seen_first r.property p (properties run) h in
+    let first = not_seen_first (restricted r.role) p (properties run) h in
     ap (λ b. map (λ o. o.form) (cond b (r ∷ filter (restricts p) run) (filter (restricts p) run))) first.0 ∙ not_seen run p first.1
 
 -- ---- the groups of a run with one operand more
@@ -206,7 +207,7 @@ module _ {A : Type 0} where
   abbrev pub groups : List (Form A) → List (ℕ × List A)
   groups run = each (λ k. forms_of (restricts k) run) (properties run)
 
-  pub groups_more : (run : List (Form A)) (o : Form A) (p : ℕ) → o.property ≡ Some p → groups (run ++ o ∷ []) ≡ grouped (groups run) p o.form
+  pub groups_more : (run : List (Form A)) (o : Form A) (p : ℕ) → (restricted o.role) ≡ Some p → groups (run ++ o ∷ []) ≡ grouped (groups run) p o.form
   groups_more run o p is =
       let at : (k : ℕ) → restricts k o ≡ nat_eq p k = λ k. ap (λ x. option_eq nat_eq x (Some k)) is in
       ap (each (λ k. forms_of (restricts k) (run ++ o ∷ []))) (properties_more run o p is)
@@ -214,7 +215,7 @@ module _ {A : Type 0} where
       (with_passed (restricts p) run o (at p ∙ same p)) (λ k e. with_barred (restricts k) run o (at k ∙ e))
       (properties run) (distinct_properties run) (not_seen run p)
 
-  pub groups_same : (run : List (Form A)) (o : Form A) → o.property ≡ None → groups (run ++ o ∷ []) ≡ groups run
+  pub groups_same : (run : List (Form A)) (o : Form A) → (restricted o.role) ≡ None → groups (run ++ o ∷ []) ≡ groups run
   groups_same run o is =
       let barred = λ (k : ℕ). with_barred (restricts k) run o (ap (λ x. option_eq nat_eq x (Some k)) is) in
       ap (each (λ k. forms_of (restricts k) (run ++ o ∷ []))) (properties_same run o is) ∙ (λ i. each (λ k. barred k i) (properties run))

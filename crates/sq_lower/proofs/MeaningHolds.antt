@@ -17,6 +17,8 @@ use Rattle.sq_model.specs.Fql as fql
 use Rattle.sq_model.specs.Kql as kql
 use Rattle.sq_model.specs.declared.leaf.Leaf.{Leaf}
 use Rattle.sq_model.specs.declared.corpus.Value.{Value}
+use Rattle.sq_model.specs.declared.judged.Role.TheVariants.{Other}
+use Rattle.sq_model.specs.declared.kql.Joiner.{Joiner}
 use Rattle.sq_model.specs.declared.kql.Relation.{Relation}
 use Rattle.sq_model.specs.declared.kql.Relation.TheVariants.{Has, Equal, Less, More, AtMost, AtLeast, Unequal, Range}
 use Rattle.sq_model.specs.declared.kql.Sign.{Sign}
@@ -34,7 +36,7 @@ use Rattle.sq_lower.proofs.MeaningSpans.{same_triples}
 use Rattle.sq_lower.proofs.MeaningRuns.{IsMade, judge_form, same_run}
 use Rattle.sq_lower.proofs.MeaningNumbers.{AllFit, numbers_fit, related_within, related_unequal}
 
-made : (sign : Sign) (tree : KTree) → is_minus sign ≡ true → kql.restricted sign tree ≡ None
+made : (sign : Sign) (tree : KTree) → is_minus sign ≡ true → kql.role sign tree ≡ Other
 made Plain tree e = cc
 made Plus tree e = cc
 made Minus tree e = refl
@@ -44,9 +46,9 @@ none_empty m [] = refl
 none_empty m (i ∷ at) = refl
 
 module _ (schema : List Property) where
-  forms_made : {m : _} (operands : Row_of-KOperand m) → IsMade (operand_forms schema operands)
-  forms_made end_of-KOperand = tt
-  forms_made (more_of-KOperand sign tree rest) = (made sign tree, forms_made rest)
+  forms_made : {m : _} (joiner : Joiner) (operands : Row_of-KOperand m) → IsMade (operand_forms schema joiner operands)
+  forms_made joiner end_of-KOperand = tt
+  forms_made joiner (more_of-KOperand sign tree rest) = (made sign tree, forms_made joiner rest)
 
   pub each_of_some : {m : _} (parts : Row_of-KTree m) → SomeSound schema parts → EachSound schema parts
   each_of_some end_of-KTree sound = tt
@@ -93,9 +95,9 @@ module _ (schema : List Property) (values : List Value) where
       any_same (λ passage. not (is_empty (triples passage (spans k)))) (λ passage. not (is_empty (kql.triples passage k)))
       (λ passage. ap (λ ts. not (is_empty ts)) (same_triples passage k)) (looked look schema values)
 
-  module _ (valid : list_all (is_value schema) values ≡ true) where
+  module _ (joiner : Joiner) (valid : list_all (is_value schema) values ≡ true) where
     mutual
-      pub same_holds : (k : KTree) → PartsSound schema k → fql.holds schema values (form schema k) ≡ kql.holds schema values k
+      pub same_holds : (k : KTree) → PartsSound schema k → fql.holds schema values (form schema joiner k) ≡ kql.holds schema values joiner k
       same_holds (Free leaf) sound = same_somewhere Searchable (Free leaf)
       same_holds All sound = refl
       same_holds (Words leaves) sound = same_somewhere Searchable (Words leaves)
@@ -105,25 +107,25 @@ module _ (schema : List Property) (values : List Value) where
           same_value_of property (slice_get schema property) r first last sound (numbers_fit schema property values valid)
       same_holds (Near' p left q right n ordered) sound = same_somewhere Searchable (Near' p left q right n ordered)
       same_holds (Run' shape operands) sound =
-          same_run schema values (operand_forms schema operands) (forms_made schema operands)
-          ∙ ap kql.run_holds (same_judged operands (operands_of_some schema operands sound))
+          same_run schema values joiner (operand_forms schema joiner operands) (forms_made schema joiner operands)
+          ∙ ap (kql.run_holds joiner) (same_judged operands (operands_of_some schema operands sound))
       same_holds (And' shape parts) sound =
-          holds_and schema values (form_each schema parts)
-          ∙ (sym (list_all-map (λ b. b) (fql.holds schema values) (form_each schema parts))
+          holds_and schema values (form_each schema joiner parts)
+          ∙ (sym (list_all-map (λ b. b) (fql.holds schema values) (form_each schema joiner parts))
           ∙ ap (list_all (λ b. b)) (same_each parts (each_of_some schema parts sound)))
       same_holds (Or' shape parts) sound =
-          holds_or schema values (form_each schema parts)
-          ∙ (sym (any_map (λ b. b) (fql.holds schema values) (form_each schema parts))
+          holds_or schema values (form_each schema joiner parts)
+          ∙ (sym (any_map (λ b. b) (fql.holds schema values) (form_each schema joiner parts))
           ∙ ap (list_any (λ b. b)) (same_each parts (each_of_some schema parts sound)))
       same_holds (Xrank' p (more_of-KTree matched end_of-KTree) q ranked cb) sound =
-          holds_xrank schema values (form schema matched) (form_each schema ranked) cb ∙ same_holds matched sound.0.0
+          holds_xrank schema values (form schema joiner matched) (form_each schema joiner ranked) cb ∙ same_holds matched sound.0.0
 
-      pub same_each : {m : _} (parts : Row_of-KTree m) → EachSound schema parts → map (fql.holds schema values) (form_each schema parts) ≡ kql.holds_each schema values parts
+      pub same_each : {m : _} (parts : Row_of-KTree m) → EachSound schema parts → map (fql.holds schema values) (form_each schema joiner parts) ≡ kql.holds_each schema values joiner parts
       same_each end_of-KTree sound = refl
       same_each (more_of-KTree part rest) sound = ap₂ (λ a b. a ∷ b) (same_holds part sound.0) (same_each rest sound.1)
 
       same_judged : {m : _} (operands : Row_of-KOperand m) → EachOperandSound schema operands →
-          map (judge_form schema values) (operand_forms schema operands) ≡ kql.judged schema values operands
+          map (judge_form schema values) (operand_forms schema joiner operands) ≡ kql.judged schema values joiner operands
       same_judged end_of-KOperand sound = refl
       same_judged (more_of-KOperand sign tree rest) sound =
-          ap₂ (λ h run. record { sign = sign; property = kql.restricted sign tree; holds = h } ∷ run) (same_holds tree sound.0) (same_judged rest sound.1)
+          ap₂ (λ h run. record { sign = sign; role = kql.role sign tree; holds = h } ∷ run) (same_holds tree sound.0) (same_judged rest sound.1)

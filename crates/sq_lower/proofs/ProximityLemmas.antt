@@ -11,6 +11,7 @@ use Rattle.sq_model.specs.declared.fql.Look.TheVariants.{Searchable}
 use Rattle.sq_model.specs.declared.fql.SpanTree.{SpanTree}
 use Rattle.sq_model.specs.declared.fql.SpanTree.TheVariants as s
 use Rattle.sq_model.specs.declared.fql.FTree.TheVariants as f
+use Rattle.sq_model.specs.declared.kql.Joiner.{Joiner}
 use Rattle.sq_model.specs.declared.kql.KTree.{KTree, Free, Words, Group', Near', Or', Row_of-KTree, end_of-KTree, more_of-KTree}
 use Rattle.sq_base.specs.Outcome.{Outcome}
 use Rattle.sq_fql.specs.declared.raw.FRaw.{FRaw}
@@ -66,20 +67,21 @@ module _ (schema : List Property) (look : Look) where
   some_spans end_of-KTree sound = absurd sound
   some_spans (more_of-KTree part rest) sound = refl
 
-  mutual
-    pub proximity_given : (k : KTree) → is_proximity k ≡ true → PartsSound schema k → proximate schema look (lowered schema k) ≡ Ok (spans k)
-    proximity_given (Free leaf) is sound = phrase_given schema look leaf sound
-    proximity_given (Words leaves) is sound = words_given schema look leaves sound.0 sound.1
-    proximity_given (Group' p (more_of-KTree inside end_of-KTree)) is sound = proximity_given inside (and_left _ _ is) sound.0
-    proximity_given (Or' shape parts) is sound = or_given (lowered_each schema parts) (spans_each parts) (some_spans parts sound) (each_given parts is (each_of_some schema parts sound))
-    proximity_given (Near' p (more_of-KTree left end_of-KTree) q (more_of-KTree right end_of-KTree) n ordered) is sound =
-        near_given n ordered (lowered schema left ∷ lowered schema right ∷ []) (spans left ∷ spans right ∷ []) refl
-        (proximity_given left (and_left _ _ (and_left _ _ is)) sound.0.0, (proximity_given right (and_left _ _ (and_right _ _ is)) sound.1.0, tt))
-    proximity_given _ is sound = absurd (false≢true is)
+  module _ (joiner : Joiner) where
+    mutual
+      pub proximity_given : (k : KTree) → is_proximity k ≡ true → PartsSound schema k → proximate schema look (lowered schema joiner k) ≡ Ok (spans k)
+      proximity_given (Free leaf) is sound = phrase_given schema look leaf sound
+      proximity_given (Words leaves) is sound = words_given schema look leaves sound.0 sound.1
+      proximity_given (Group' p (more_of-KTree inside end_of-KTree)) is sound = proximity_given inside (and_left _ _ is) sound.0
+      proximity_given (Or' shape parts) is sound = or_given (lowered_each schema joiner parts) (spans_each parts) (some_spans parts sound) (each_given parts is (each_of_some schema parts sound))
+      proximity_given (Near' p (more_of-KTree left end_of-KTree) q (more_of-KTree right end_of-KTree) n ordered) is sound =
+          near_given n ordered (lowered schema joiner left ∷ lowered schema joiner right ∷ []) (spans left ∷ spans right ∷ []) refl
+          (proximity_given left (and_left _ _ (and_left _ _ is)) sound.0.0, (proximity_given right (and_left _ _ (and_right _ _ is)) sound.1.0, tt))
+      proximity_given _ is sound = absurd (false≢true is)
 
-    each_given : {m : _} (row : Row_of-KTree m) → are_proximity row ≡ true → EachSound schema row → GiveEach (proximate schema look) (lowered_each schema row) (spans_each row)
-    each_given end_of-KTree is sound = tt
-    each_given (more_of-KTree part rest) is sound = (proximity_given part (and_left _ _ is) sound.0, each_given rest (and_right _ _ is) sound.1)
+      each_given : {m : _} (row : Row_of-KTree m) → are_proximity row ≡ true → EachSound schema row → GiveEach (proximate schema look) (lowered_each schema joiner row) (spans_each row)
+      each_given end_of-KTree is sound = tt
+      each_given (more_of-KTree part rest) is sound = (proximity_given part (and_left _ _ is) sound.0, each_given rest (and_right _ _ is) sound.1)
 
 module _ (schema : List Property) where
   pub near_typed : (n : ℕ) (ordered : Bool) (raws : List FRaw) (parts : List SpanTree) → is_empty parts ≡ false → GiveEach (proximate schema Searchable) raws parts →

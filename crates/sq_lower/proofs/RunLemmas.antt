@@ -7,13 +7,17 @@ use Rattle.std.specs.Option.{option_eq}
 use Rattle.sq_schema.specs.declared.property.Property.{Property}
 use Rattle.sq_model.specs.Lists.{is_empty}
 use Rattle.sq_model.specs.declared.fql.FTree.{FTree}
+use Rattle.sq_model.specs.Kql.{restricted}
+use Rattle.sq_model.specs.declared.judged.Role.{Role}
+use Rattle.sq_model.specs.declared.judged.Role.TheVariants.{Restricts, Loose, Other}
+use Rattle.sq_model.specs.declared.kql.Joiner.{Joiner}
 use Rattle.sq_model.specs.declared.kql.Sign.{Sign}
 use Rattle.sq_model.specs.declared.kql.Sign.TheVariants.{Plain, Plus, Minus}
 use Rattle.sq_fql.specs.declared.raw.FRaw.{FRaw}
 use Rattle.sq_typing.specs.Fql.{fql_typed}
-use Rattle.sq_lower.specs.Lowered.{raw_joins}
-use Rattle.sq_lower.specs.Runs.{Joins, Form, is_minus, is_subtracted, is_required, restricts, forms_of, properties, alone_or, members, less, run_form}
-use Rattle.sq_lower.proofs.Form.{tree_joins}
+use Rattle.sq_lower.specs.Lowered.{raw_connectives}
+use Rattle.sq_lower.specs.Runs.{Connectives, Form, is_minus, is_subtracted, is_required, restricts, forms_of, properties, alone_or, members, less, gathers, is_gathered, in_one_place, gathered, gathered_form, run_form}
+use Rattle.sq_lower.proofs.Form.{tree_connectives}
 use Rattle.sq_lower.proofs.JoinedLemmas.{IsTyped, AreTyped, given_append, and_typed, or_typed, not_typed, and_not_typed, alone_typed}
 
 -- ---- lists
@@ -59,7 +63,7 @@ module _ {A : Type 0} where
   properties_found : (run : List (Form A)) → AllByRecursion (λ p. list_any (restricts p) run ≡ true) (properties run)
   properties_found [] = tt
   properties_found (o ∷ run) =
-      all_cons_option (λ p. list_any (restricts p) (o ∷ run) ≡ true) o.property _
+      all_cons_option (λ p. list_any (restricts p) (o ∷ run) ≡ true) (restricted o.role) _
       (λ p is. ap (λ b. b || list_any (restricts p) run) (ap (λ q. option_eq nat_eq q (Some p)) is ∙ eq-eqb p p refl))
       (all_filter (λ p. list_any (restricts p) (o ∷ run) ≡ true) _ (properties run)
       (all_weaker (λ p. list_any (restricts p) run ≡ true) _ (λ p found. or_right (restricts p o) _ found) (properties run) (properties_found run)))
@@ -67,33 +71,36 @@ module _ {A : Type 0} where
   some_restrict : (run : List (Form A)) → AllByRecursion (λ p. is_empty (forms_of (restricts p) run) ≡ false) (properties run)
   some_restrict run = all_weaker (λ p. list_any (restricts p) run ≡ true) _ (λ p found. some_of_any (restricts p) run found) (properties run) (properties_found run)
 
-  module _ (joins : Joins A) where
-    some_members : (run : List (Form A)) → is_empty (properties run) ≡ false → is_empty (members joins run) ≡ false
-    some_members run some = some_behind (forms_of is_required run) (λ p. alone_or joins.any (forms_of (restricts p) run)) (properties run) some
+  module _ (connectives : Connectives A) where
+    some_members : (run : List (Form A)) → is_empty (properties run) ≡ false → is_empty (members connectives run) ≡ false
+    some_members run some = some_behind (forms_of is_required run) (λ p. alone_or connectives.any (forms_of (restricts p) run)) (properties run) some
 
     -- a run of operands that are all subtracted has such an operand
-    some_by_sign : (sign : Sign) (property : Option ℕ) (form : A) (run : List (Form A)) →
-        is_empty (members joins (record { sign = sign; property = property; form = form } ∷ run)) ≡ true →
-        is_empty (forms_of is_subtracted (record { sign = sign; property = property; form = form } ∷ run)) ≡ false
-    some_by_sign Minus property form run none = refl
-    some_by_sign Plain None form run none = absurd (false≢true none)
-    some_by_sign Plus None form run none = absurd (false≢true none)
-    some_by_sign Plain (Some p) form run none = absurd (false≢true (sym (some_members (record { sign = Plain; property = Some p; form = form } ∷ run) refl) ∙ none))
-    some_by_sign Plus (Some p) form run none = absurd (false≢true (sym (some_members (record { sign = Plus; property = Some p; form = form } ∷ run) refl) ∙ none))
+    some_by_sign : (sign : Sign) (role : Role) (form : A) (run : List (Form A)) →
+        is_empty (members connectives (record { sign = sign; role = role; form = form } ∷ run)) ≡ true →
+        is_empty (forms_of is_subtracted (record { sign = sign; role = role; form = form } ∷ run)) ≡ false
+    some_by_sign Minus role form run none = refl
+    some_by_sign Plain Loose form run none = absurd (false≢true none)
+    some_by_sign Plain Other form run none = absurd (false≢true none)
+    some_by_sign Plus Loose form run none = absurd (false≢true none)
+    some_by_sign Plus Other form run none = absurd (false≢true none)
+    some_by_sign Plain (Restricts p) form run none =
+        absurd (false≢true (sym (some_members (record { sign = Plain; role = Restricts p; form = form } ∷ run) refl) ∙ none))
+    some_by_sign Plus (Restricts p) form run none = absurd (false≢true (sym (some_members (record { sign = Plus; role = Restricts p; form = form } ∷ run) refl) ∙ none))
 
-    some_subtracted : (run : List (Form A)) → is_empty run ≡ false → is_empty (members joins run) ≡ true → is_empty (forms_of is_subtracted run) ≡ false
+    some_subtracted : (run : List (Form A)) → is_empty run ≡ false → is_empty (members connectives run) ≡ true → is_empty (forms_of is_subtracted run) ≡ false
     some_subtracted [] some none = absurd (true≢false some)
-    some_subtracted (o ∷ run) some none = some_by_sign o.sign o.property o.form run none
+    some_subtracted (o ∷ run) some none = some_by_sign o.sign o.role o.form run none
 
 -- ---- typing
 
 module _ (schema : List Property) where
   pub record IsForm (o : Form FRaw) (p : Form FTree) : Type 0 where
     pub sign : o.sign ≡ p.sign
-    pub property : o.property ≡ p.property
+    pub role : o.role ≡ p.role
     pub form : IsTyped schema o.form p.form
 
-  -- operands with the same signs and properties, and the forms of the first are typed as those of the second
+  -- operands with the same signs and roles, and the forms of the first are typed as those of the second
   abbrev pub AreForms : List (Form FRaw) → List (Form FTree) → Type 0
   AreForms [] [] = Unit {0}
   AreForms (o ∷ os) (p ∷ ps) = IsForm o p × AreForms os ps
@@ -107,55 +114,111 @@ module _ (schema : List Property) where
   kept_typed true false o p os ps same here typed = absurd (true≢false same)
   kept_typed false true o p os ps same here typed = absurd (false≢true same)
 
-  forms_typed : (test : Sign → Option ℕ → Bool) (run : List (Form FRaw)) (trees : List (Form FTree)) → AreForms run trees →
-      AreTyped schema (forms_of (λ o. test o.sign o.property) run) (forms_of (λ p. test p.sign p.property) trees)
+  forms_typed : (test : Sign → Role → Bool) (run : List (Form FRaw)) (trees : List (Form FTree)) → AreForms run trees →
+      AreTyped schema (forms_of (λ o. test o.sign o.role) run) (forms_of (λ p. test p.sign p.role) trees)
   forms_typed test [] [] are = tt
   forms_typed test (o ∷ os) (p ∷ ps) are =
-      kept_typed (test o.sign o.property) (test p.sign p.property) o p (filter (λ o. test o.sign o.property) os) (filter (λ p. test p.sign p.property) ps)
-      (ap₂ test are.0.sign are.0.property) are.0.form (forms_typed test os ps are.1)
+      kept_typed (test o.sign o.role) (test p.sign p.role) o p (filter (λ o. test o.sign o.role) os) (filter (λ p. test p.sign p.role) ps)
+      (ap₂ test are.0.sign are.0.role) are.0.form (forms_typed test os ps are.1)
   forms_typed test [] (p ∷ ps) are = absurd are
   forms_typed test (o ∷ os) [] are = absurd are
 
   properties_same : (run : List (Form FRaw)) (trees : List (Form FTree)) → AreForms run trees → properties run ≡ properties trees
   properties_same [] [] are = refl
   properties_same (o ∷ os) (p ∷ ps) are =
-      ap₂ (λ property rest. cons_option property (filter (λ q. not (option_eq nat_eq property (Some q))) rest)) are.0.property (properties_same os ps are.1)
+      ap₂ (λ property rest. cons_option property (filter (λ q. not (option_eq nat_eq property (Some q))) rest)) (ap restricted are.0.role) (properties_same os ps are.1)
   properties_same [] (p ∷ ps) are = absurd are
   properties_same (o ∷ os) [] are = absurd are
 
   restrictions_typed : (run : List (Form FRaw)) (trees : List (Form FTree)) → AreForms run trees →
       (ps : List ℕ) → AllByRecursion (λ p. is_empty (forms_of (restricts p) trees) ≡ false) ps →
-      AreTyped schema (map (λ p. alone_or raw_joins.any (forms_of (restricts p) run)) ps) (map (λ p. alone_or tree_joins.any (forms_of (restricts p) trees)) ps)
+      AreTyped schema (map (λ p. alone_or raw_connectives.any (forms_of (restricts p) run)) ps) (map (λ p. alone_or tree_connectives.any (forms_of (restricts p) trees)) ps)
   restrictions_typed run trees are [] some = tt
   restrictions_typed run trees are (p ∷ ps) some = (
-    alone_typed schema raw_joins.any tree_joins.any (or_typed schema) _ _ (forms_typed (λ sign property. option_eq nat_eq property (Some p)) run trees are) some.0,
+    alone_typed schema raw_connectives.any tree_connectives.any (or_typed schema) _ _ (forms_typed (λ sign role. option_eq nat_eq (restricted role) (Some p)) run trees are) some.0,
     restrictions_typed run trees are ps some.1,
   )
 
-  members_typed : (run : List (Form FRaw)) (trees : List (Form FTree)) → AreForms run trees → AreTyped schema (members raw_joins run) (members tree_joins trees)
+  members_typed : (run : List (Form FRaw)) (trees : List (Form FTree)) → AreForms run trees → AreTyped schema (members raw_connectives run) (members tree_connectives trees)
   members_typed run trees are =
       given_append (fql_typed schema) (forms_of is_required run) (forms_of is_required trees) _ _
-      (forms_typed (λ sign property. not (is_minus sign) && is_none property) run trees are)
-      (subst (λ ps. AreTyped schema (map (λ p. alone_or raw_joins.any (forms_of (restricts p) run)) ps)
-      (map (λ p. alone_or tree_joins.any (forms_of (restricts p) trees)) (properties trees)))
+      (forms_typed (λ sign role. not (is_minus sign) && is_none (restricted role)) run trees are)
+      (subst (λ ps. AreTyped schema (map (λ p. alone_or raw_connectives.any (forms_of (restricts p) run)) ps)
+      (map (λ p. alone_or tree_connectives.any (forms_of (restricts p) trees)) (properties trees)))
       (sym (properties_same run trees are)) (restrictions_typed run trees are (properties trees) (some_restrict trees)))
 
   less_typed : (raws : List FRaw) (trees : List FTree) (minus : List FRaw) (without : List FTree) → AreTyped schema raws trees → AreTyped schema minus without →
-      (is_empty trees ≡ true → is_empty without ≡ false) → IsTyped schema (less raw_joins raws minus) (less tree_joins trees without)
+      (is_empty trees ≡ true → is_empty without ≡ false) → IsTyped schema (less raw_connectives raws minus) (less tree_connectives trees without)
   less_typed [] [] minus without typed others some =
-      not_typed schema _ _ (alone_typed schema raw_joins.any tree_joins.any (or_typed schema) minus without others (some refl))
+      not_typed schema _ _ (alone_typed schema raw_connectives.any tree_connectives.any (or_typed schema) minus without others (some refl))
   less_typed (r ∷ raws) (t ∷ trees) [] [] typed others some =
-      alone_typed schema raw_joins.all tree_joins.all (and_typed schema) (r ∷ raws) (t ∷ trees) typed refl
+      alone_typed schema raw_connectives.all tree_connectives.all (and_typed schema) (r ∷ raws) (t ∷ trees) typed refl
   less_typed (r ∷ raws) (t ∷ trees) (m ∷ minus) (u ∷ without) typed others some =
       and_not_typed schema _ _ (m ∷ minus) (u ∷ without)
-      (alone_typed schema raw_joins.all tree_joins.all (and_typed schema) (r ∷ raws) (t ∷ trees) typed refl) others refl
+      (alone_typed schema raw_connectives.all tree_connectives.all (and_typed schema) (r ∷ raws) (t ∷ trees) typed refl) others refl
   less_typed [] (t ∷ trees) minus without typed others some = absurd typed
   less_typed (r ∷ raws) [] minus without typed others some = absurd typed
   less_typed (r ∷ raws) (t ∷ trees) [] (u ∷ without) typed others some = absurd others
   less_typed (r ∷ raws) (t ∷ trees) (m ∷ minus) [] typed others some = absurd others
 
-  pub run_typed : (run : List (Form FRaw)) (trees : List (Form FTree)) → AreForms run trees → is_empty trees ≡ false →
-      IsTyped schema (run_form raw_joins run) (run_form tree_joins trees)
-  run_typed run trees are some =
-      less_typed (members raw_joins run) (members tree_joins trees) (forms_of is_subtracted run) (forms_of is_subtracted trees)
-      (members_typed run trees are) (forms_typed (λ sign property. is_minus sign) run trees are) (λ none. some_subtracted tree_joins trees some none)
+  gathered_typed : (run : List (Form FRaw)) (trees : List (Form FTree)) → AreForms run trees → is_empty trees ≡ false →
+      IsTyped schema (gathered_form raw_connectives run) (gathered_form tree_connectives trees)
+  gathered_typed run trees are some =
+      less_typed (members raw_connectives run) (members tree_connectives trees) (forms_of is_subtracted run) (forms_of is_subtracted trees)
+      (members_typed run trees are) (forms_typed (λ sign role. is_minus sign) run trees are) (λ none. some_subtracted tree_connectives trees some none)
+
+  -- ---- one operand in the place of those that pass a test
+
+  module _ (test : Sign → Role → Bool) where
+    abbrev passes : {A : Type 0} → Form A → Bool
+    passes o = test o.sign o.role
+
+    kept_forms : (a b : Bool) (o : Form FRaw) (p : Form FTree) (os : List (Form FRaw)) (ps : List (Form FTree)) → a ≡ b → IsForm o p → AreForms os ps →
+        AreForms (cond a (o ∷ os) os) (cond b (p ∷ ps) ps)
+    kept_forms true true o p os ps same here are = (here, are)
+    kept_forms false false o p os ps same here are = are
+    kept_forms true false o p os ps same here are = absurd (true≢false same)
+    kept_forms false true o p os ps same here are = absurd (false≢true same)
+
+    forms_without : (run : List (Form FRaw)) (trees : List (Form FTree)) → AreForms run trees → AreForms (filter (λ o. not (passes o)) run) (filter (λ p. not (passes p)) trees)
+    forms_without [] [] are = tt
+    forms_without (o ∷ os) (p ∷ ps) are =
+        kept_forms (not (passes o)) (not (passes p)) o p (filter (λ o. not (passes o)) os) (filter (λ p. not (passes p)) ps)
+        (ap not (ap₂ test are.0.sign are.0.role)) are.0 (forms_without os ps are.1)
+    forms_without [] (p ∷ ps) are = absurd are
+    forms_without (o ∷ os) [] are = absurd are
+
+    module _ (raw : FRaw) (tree : FTree) where
+      one_placed : (a b : Bool) (o : Form FRaw) (p : Form FTree) (os others : List (Form FRaw)) (ps rest : List (Form FTree)) → a ≡ b → IsForm o p → (b ≡ true → IsTyped schema raw tree) →
+          AreForms os ps → AreForms others rest → AreForms (cond a (record o { form = raw } ∷ os) (o ∷ others)) (cond b (record p { form = tree } ∷ ps) (p ∷ rest))
+      one_placed true true o p os others ps rest same here made are more = (record { sign = here.sign; role = here.role; form = made refl }, are)
+      one_placed false false o p os others ps rest same here made are more = (here, more)
+      one_placed true false o p os others ps rest same here made are more = absurd (true≢false same)
+      one_placed false true o p os others ps rest same here made are more = absurd (false≢true same)
+
+      placed_forms : (run : List (Form FRaw)) (trees : List (Form FTree)) → (list_any passes trees ≡ true → IsTyped schema raw tree) → AreForms run trees →
+          AreForms (in_one_place passes raw run) (in_one_place passes tree trees)
+      placed_forms [] [] made are = tt
+      placed_forms (o ∷ os) (p ∷ ps) made are =
+          one_placed (passes o) (passes p) o p (filter (λ o. not (passes o)) os) (in_one_place passes raw os) (filter (λ p. not (passes p)) ps) (in_one_place passes tree ps)
+          (ap₂ test are.0.sign are.0.role) are.0 (λ here. made (ap (λ b. b || list_any passes ps) here))
+          (forms_without os ps are.1) (placed_forms os ps (λ later. made (or_right (passes p) _ later)) are.1)
+      placed_forms [] (p ∷ ps) made are = absurd are
+      placed_forms (o ∷ os) [] made are = absurd are
+
+    some_placed : (tree : FTree) (trees : List (Form FTree)) → is_empty trees ≡ false → is_empty (in_one_place passes tree trees) ≡ false
+    some_placed tree [] some = absurd (true≢false some)
+    some_placed tree (p ∷ ps) some = by (passes p)
+      where
+        by : (b : Bool) → is_empty (cond b (record p { form = tree } ∷ filter (λ o. not (passes o)) ps) (p ∷ in_one_place passes tree ps)) ≡ false
+        by true = refl
+        by false = refl
+
+  pub run_typed : (joiner : Joiner) (run : List (Form FRaw)) (trees : List (Form FTree)) → AreForms run trees → is_empty trees ≡ false →
+      IsTyped schema (run_form raw_connectives joiner run) (run_form tree_connectives joiner trees)
+  run_typed joiner run trees are some =
+      let test : Sign → Role → Bool = λ sign role. gathers joiner role in
+      gathered_typed (gathered raw_connectives joiner run) (gathered tree_connectives joiner trees)
+      (placed_forms test (alone_or raw_connectives.any (forms_of (is_gathered joiner) run)) (alone_or tree_connectives.any (forms_of (is_gathered joiner) trees)) run trees
+      (λ found. alone_typed schema raw_connectives.any tree_connectives.any (or_typed schema) _ _ (forms_typed test run trees are) (some_of_any (is_gathered joiner) trees found)) are)
+      (some_placed test (alone_or tree_connectives.any (forms_of (is_gathered joiner) trees)) trees some)

@@ -13,6 +13,10 @@ pub or-false : (b : Bool) → (b || false) ≡ b
 or-false true = refl
 or-false false = refl
 
+pub or-true : (b : Bool) → (b || true) ≡ true
+or-true true = refl
+or-true false = refl
+
 swap-and : (a b c d : Bool) → ((a && b) && (c && d)) ≡ ((a && c) && (b && d))
 swap-and true b true d = refl
 swap-and true true false d = refl
@@ -52,6 +56,14 @@ module _ {X : Type 0} where
   pub any_filter : (test p : X → Bool) (xs : List X) → list_any p (filter test xs) ≡ list_any (λ x. test x && p x) xs
   any_filter test p [] = refl
   any_filter test p (x ∷ xs) = any_cond p (test x) x (filter test xs) ∙ ap (λ b. (test x && p x) || b) (any_filter test p xs)
+
+  -- what no element that is left out passes is passed as well without these
+  pub any_without : (test p : X → Bool) → ((x : X) → test x ≡ true → p x ≡ false) → (xs : List X) → list_any p (filter (λ x. not (test x)) xs) ≡ list_any p xs
+  any_without test p none xs = any_filter (λ x. not (test x)) p xs ∙ any_same (λ x. not (test x) && p x) p (λ x. kept x (test x) refl) xs
+    where
+      kept : (x : X) (b : Bool) → test x ≡ b → (not (test x) && p x) ≡ p x
+      kept x true e = ap (λ b. not b && p x) e ∙ sym (none x e)
+      kept x false e = ap (λ b. not b && p x) e
 
   all_cond : (p : X → Bool) (b : Bool) (x : X) (xs : List X) → list_all p (cond b (x ∷ xs) xs) ≡ ((not b || p x) && list_all p xs)
   all_cond p true x xs = refl

@@ -4,19 +4,22 @@ use Rattle.std.specs.Prelude.{if◌then◌else◌, nat_eq, is_none}
 use Rattle.std.specs.List.{AllByRecursion, cons_option}
 use Rattle.std.specs.Option.{option_eq}
 use Rattle.std.proofs.lemmas.Bool.{eqb-true}
+use Rattle.sq_model.specs.Kql.{restricted}
+use Rattle.sq_model.specs.declared.kql.Joiner.{Joiner}
 use Rattle.sq_model.specs.declared.kql.Sign.{Sign}
 use Rattle.sq_model.specs.declared.kql.Sign.TheVariants.{Plain, Plus, Minus}
 use Rattle.sq_fql.specs.declared.raw.FRaw.{FRaw}
 use Rattle.sq_fql.specs.declared.raw.Op.{Op}
 use Rattle.sq_fql.specs.declared.raw.Op.TheVariants as op
 use Rattle.sq_fql.specs.WellFormed.{is_xrank}
-use Rattle.sq_lower.specs.Runs.{Form, is_minus, is_subtracted, is_required, restricts, forms_of, properties, alone_or, members, less, run_form}
-use Rattle.sq_lower.specs.Lowered.{apply, raw_joins}
+use Rattle.sq_lower.specs.Runs.{Form, is_minus, is_subtracted, is_required, restricts, forms_of, properties, alone_or, members, less, is_gathered, in_one_place, gathered, gathered_form, run_form}
+use Rattle.sq_lower.specs.Lowered.{apply, raw_connectives}
 use Rattle.sq_lower.proofs.RawForms.{total, total-append}
+use Rattle.sq_lower.proofs.RunForms.{all_filtered}
 
 -- A minus operand restricts no property.
 abbrev pub IsUngrouped : Form FRaw → Type 0
-IsUngrouped o = is_minus o.sign ≡ true → o.property ≡ None
+IsUngrouped o = is_minus o.sign ≡ true → (restricted o.role) ≡ None
 
 -- ---- how often a property is restricted
 
@@ -64,7 +67,7 @@ joined_share (Some x) q n ps few =
 -- each property stands once
 once : (run : List (Form FRaw)) (q n : ℕ) → shares (Some q) n (properties run) ≤ n
 once [] q n = omega arith
-once (o ∷ run) q n = joined_share o.property q n (properties run) (once run q n)
+once (o ∷ run) q n = joined_share (restricted o.role) q n (properties run) (once run q n)
 
 -- ---- sums over a run
 
@@ -78,7 +81,7 @@ module _ (weight : FRaw → ℕ) (sum : IsSum weight) where
   alone_total o (t ∷ []) none = omega arith
   alone_total o (t ∷ (u ∷ us)) none = sum.flat o (t ∷ (u ∷ us)) none
 
-  less_total : (wanted minus : List FRaw) → weight (less raw_joins wanted minus) ≡ total weight wanted + total weight minus
+  less_total : (wanted minus : List FRaw) → weight (less raw_connectives wanted minus) ≡ total weight wanted + total weight minus
   less_total [] minus = omega (arith, sum.flat op.Not (alone_or (apply op.Or) minus ∷ []) refl, alone_total op.Or minus refl)
   less_total (t ∷ ts) [] = omega (arith, alone_total op.And (t ∷ ts) refl)
   less_total (t ∷ ts) (u ∷ us) = omega (arith, sum.flat op.AndNot (alone_or (apply op.And) (t ∷ ts) ∷ (u ∷ us)) refl, alone_total op.And (t ∷ ts) refl)
@@ -93,7 +96,7 @@ module _ (weight : FRaw → ℕ) (sum : IsSum weight) where
   kept_total true o rest = refl
   kept_total false o rest = omega arith
 
-  one_more : (o : Form FRaw) (run : List (Form FRaw)) (ps : List ℕ) → groups (o ∷ run) ps ≡ shares o.property (weight o.form) ps + groups run ps
+  one_more : (o : Form FRaw) (run : List (Form FRaw)) (ps : List ℕ) → groups (o ∷ run) ps ≡ shares (restricted o.role) (weight o.form) ps + groups run ps
   one_more o run [] = omega arith
   one_more o run (p ∷ ps) = omega (arith, kept_total (restricts p o) o (filter (restricts p) run), one_more o run ps)
 
@@ -115,7 +118,7 @@ module _ (weight : FRaw → ℕ) (sum : IsSum weight) where
       groups run ps + (total weight (forms_of is_required run) + total weight (forms_of is_subtracted run)) ≤ total weight (map (λ o. o.form) run)
   parts_total [] ps few alone = omega (arith, groups_of_none ps)
   parts_total (o ∷ run) ps few alone =
-      let first = one_part o.sign o.property (weight o.form) ps alone.0 (λ q. few q (weight o.form)) in
+      let first = one_part o.sign (restricted o.role) (weight o.form) ps alone.0 (λ q. few q (weight o.form)) in
       let rest = parts_total run ps few alone.1 in
       omega (arith, first, rest, one_more o run ps, kept_total (is_required o) o (filter is_required run), kept_total (is_subtracted o) o (filter is_subtracted run))
 
@@ -123,13 +126,61 @@ module _ (weight : FRaw → ℕ) (sum : IsSum weight) where
   any_total run [] = refl
   any_total run (p ∷ ps) = ap₂ (λ m n. m + n) (alone_total op.Or (forms_of (restricts p) run) refl) (any_total run ps)
 
-  pub run_total : (run : List (Form FRaw)) → AllByRecursion IsUngrouped run → weight (run_form raw_joins run) ≤ total weight (map (λ o. o.form) run)
-  run_total run alone =
+  gathered_total : (run : List (Form FRaw)) → AllByRecursion IsUngrouped run → weight (gathered_form raw_connectives run) ≤ total weight (map (λ o. o.form) run)
+  gathered_total run alone =
       let parts = parts_total run (properties run) (once run) alone in
       omega (
         arith,
         parts,
-        less_total (members raw_joins run) (forms_of is_subtracted run),
+        less_total (members raw_connectives run) (forms_of is_subtracted run),
         total-append weight (forms_of is_required run) (map (λ p. alone_or (apply op.Or) (forms_of (restricts p) run)) (properties run)),
         any_total run (properties run),
+      )
+
+  -- operands that pass a test and the others
+  parted : (b : Bool) (n : ℕ) → (if b then n else 0) + (if not b then n else 0) ≡ n
+  parted true n = omega arith
+  parted false n = omega arith
+
+  parted_total : (test : Form FRaw → Bool) (run : List (Form FRaw)) →
+      total weight (forms_of test run) + total weight (forms_of (λ o. not (test o)) run) ≡ total weight (map (λ o. o.form) run)
+  parted_total test [] = refl
+  parted_total test (o ∷ run) = omega (
+    arith,
+    parted_total test run,
+    parted (test o) (weight o.form),
+    kept_total (test o) o (filter test run),
+    kept_total (not (test o)) o (filter (λ p. not (test p)) run),
+  )
+
+  placed_total : (test : Form FRaw → Bool) (form : FRaw) (run : List (Form FRaw)) →
+      total weight (map (λ o. o.form) (in_one_place test form run)) ≤ weight form + total weight (forms_of (λ o. not (test o)) run)
+  placed_total test form [] = omega arith
+  placed_total test form (o ∷ run) = by (placed_total test form run) (test o)
+    where
+      by : total weight (map (λ o. o.form) (in_one_place test form run)) ≤ weight form + total weight (forms_of (λ o. not (test o)) run) → (b : Bool) →
+          total weight (map (λ o. o.form) (if b then record o { form = form } ∷ filter (λ p. not (test p)) run else o ∷ in_one_place test form run))
+          ≤ weight form + total weight (map (λ o. o.form) (if not b then o ∷ filter (λ p. not (test p)) run else filter (λ p. not (test p)) run))
+      by rest true = omega arith
+      by rest false = omega (arith, rest)
+
+  placed_alone : (test : Form FRaw → Bool) (form : FRaw) (run : List (Form FRaw)) → AllByRecursion IsUngrouped run → AllByRecursion IsUngrouped (in_one_place test form run)
+  placed_alone test form [] alone = tt
+  placed_alone test form (o ∷ run) alone = by (placed_alone test form run alone.1) (test o)
+    where
+      by : AllByRecursion IsUngrouped (in_one_place test form run) → (b : Bool) →
+          AllByRecursion IsUngrouped (if b then record o { form = form } ∷ filter (λ p. not (test p)) run else o ∷ in_one_place test form run)
+      by rest true = (alone.0, all_filtered IsUngrouped (λ p. not (test p)) run alone.1)
+      by rest false = (alone.0, rest)
+
+  pub run_total : (joiner : Joiner) (run : List (Form FRaw)) → AllByRecursion IsUngrouped run → weight (run_form raw_connectives joiner run) ≤ total weight (map (λ o. o.form) run)
+  run_total joiner run alone =
+      let test = λ (o : Form FRaw). is_gathered joiner o in
+      let form = alone_or (apply op.Or) (forms_of test run) in
+      omega (
+        arith,
+        gathered_total (gathered raw_connectives joiner run) (placed_alone test form run alone),
+        placed_total test form run,
+        alone_total op.Or (forms_of test run) refl,
+        parted_total test run,
       )

@@ -69,12 +69,18 @@ module _ {t : KTree} where
   pub nodes_run : (ts operands : List KOperand) → t ≡ Run operands → ts ≡ operands → all_operand_nodes ts < nodes t
   nodes_run ts operands is same = rw (is, same) (omega (arith, all_of_operand_list operands))
 
--- a part's measure, a list's, and that of a part of a list
-pub below : (a b t : ℕ) → a < b → 2 * b ≡ t → 2 * a < t
+-- the measures of a part, of a list, of a run, and of a part of each
+pub below : (a b t : ℕ) → a < b → 3 * b ≡ t → 3 * a < t
 below a b t less is = omega arith
 
-pub below_tree : (a b t : ℕ) → a < b → 2 * b ≡ t → 2 * a + 1 < t
+pub below_tree : (a b t : ℕ) → a < b → 3 * b ≡ t → 3 * a + 1 < t
 below_tree a b t less is = omega arith
 
-pub below_list : (a b t : ℕ) → a ≤ b → 2 * b + 1 ≡ t → 2 * a < t
+pub run_below : (a b t : ℕ) → a < b → 3 * b ≡ t → 3 * a + 2 < t
+run_below a b t less is = omega arith
+
+pub below_list : (a b t : ℕ) → a ≤ b → 3 * b + 1 ≡ t → 3 * a < t
 below_list a b t less is = omega arith
+
+pub below_run : (a b t : ℕ) → a ≤ b → 3 * b + 2 ≡ t → 3 * a < t
+below_run a b t less is = omega arith

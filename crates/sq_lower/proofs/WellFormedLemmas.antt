@@ -10,10 +10,11 @@ use Rattle.sq_schema.specs.declared.property.Kind.TheVariants as kind
 use Rattle.sq_schema.specs.declared.property.Property.{Property}
 use Rattle.sq_schema.specs.Properties.{IsSchema}
 use Rattle.sq_model.specs.Kinds.{is_boost}
-use Rattle.sq_model.specs.Kql.{restricted}
+use Rattle.sq_model.specs.Kql.{restricted, role}
 use Rattle.sq_model.specs.KqlSound.{LeafSound, LeavesSound, is_value_test_of, PartsSound, SomeSound, EachSound, SomeOperandsSound, EachOperandSound, IsSound, text_bytes, text_bytes_each, text_bytes_of, nodes, nodes_each, nodes_of}
 use Rattle.sq_model.specs.Lists.{is_empty}
 use Rattle.sq_model.specs.declared.leaf.Leaf.{Leaf}
+use Rattle.sq_model.specs.declared.kql.Joiner.{Joiner}
 use Rattle.sq_model.specs.declared.kql.Relation.{Relation}
 use Rattle.sq_model.specs.declared.kql.Relation.TheVariants as relation
 use Rattle.sq_model.specs.declared.kql.Sign.{Sign}
@@ -26,7 +27,7 @@ use Rattle.sq_fql.specs.declared.raw.Op.{Op}
 use Rattle.sq_fql.specs.declared.raw.Op.TheVariants as op
 use Rattle.sq_fql.specs.WellFormed.{IsName, HasForm, IsWellFormed, bytes, xranks, is_xrank}
 use Rattle.sq_lower.specs.Runs.{Form, is_minus, run_form}
-use Rattle.sq_lower.specs.Lowered.{apply, literal, scope, negated, phrase, words, near, range, text_form, text_test, number_text, value_meant, values_related, value_form, value_test, raw_joins, lowered, lowered_each, forms}
+use Rattle.sq_lower.specs.Lowered.{apply, literal, scope, negated, phrase, words, near, range, text_form, text_test, number_text, value_meant, values_related, value_form, value_test, raw_connectives, lowered, lowered_each, forms}
 use Rattle.sq_lower.proofs.RawForms.{IsLiteral, total, total-append, all-append, SomeOf, form_apply, bytes_apply, xranks_apply, form_scope, bytes_scope, xranks_scope}
 use Rattle.sq_lower.proofs.RunForms.{Formed, negated_formed, run_formed}
 use Rattle.sq_lower.proofs.RunWeights.{IsUngrouped, IsSum, run_total}
@@ -199,14 +200,14 @@ record FitOperands (most_bytes most_xranks : ℕ) (run : List (Form FRaw)) : Typ
   few_bytes : total bytes (map (λ o. o.form) run) ≤ most_bytes
   few_xranks : total xranks (map (λ o. o.form) run) ≤ most_xranks
 
-run_fits : (b x : ℕ) (run : List (Form FRaw)) → SomeOf Formed run → FitOperands b x run → Fits b x (run_form raw_joins run)
-run_fits b x run some h = record {
-  form = run_formed run some;
-  few_bytes = omega (arith, run_total bytes bytes_sum run h.alone, h.few_bytes);
-  few_xranks = omega (arith, run_total xranks xranks_sum run h.alone, h.few_xranks);
+run_fits : (b x : ℕ) (joiner : Joiner) (run : List (Form FRaw)) → SomeOf Formed run → FitOperands b x run → Fits b x (run_form raw_connectives joiner run)
+run_fits b x joiner run some h = record {
+  form = run_formed joiner run some;
+  few_bytes = omega (arith, run_total bytes bytes_sum joiner run h.alone, h.few_bytes);
+  few_xranks = omega (arith, run_total xranks xranks_sum joiner run h.alone, h.few_xranks);
 }
 
-minus_alone : (sign : Sign) (k : KTree) → is_minus sign ≡ true → restricted sign k ≡ None
+minus_alone : (sign : Sign) (k : KTree) → is_minus sign ≡ true → restricted (role sign k) ≡ None
 minus_alone Minus k is = refl
 minus_alone Plain k is = absurd (false≢true is)
 minus_alone Plus k is = absurd (false≢true is)
@@ -230,20 +231,20 @@ near_fits : (b x n : ℕ) (ordered : Bool) (ts : List FRaw) → HasForm (near n 
 near_fits b x n false ts form h = applied (op.Near n) b x ts refl form h
 near_fits b x n true ts form h = applied (op.Onear n) b x ts refl form h
 
-module _ (schema : List Property) (good : IsSchema schema) where
+module _ (schema : List Property) (good : IsSchema schema) (joiner : Joiner) where
   -- the trees of a row, by the texts and the nodes of its parts
   abbrev RowFits : {m : _} → Row_of-KTree m → Type 0
-  RowFits row = FitEach (room (sum (text_bytes_each row)) (sum (nodes_each row))) (sum (nodes_each row)) (lowered_each schema row)
+  RowFits row = FitEach (room (sum (text_bytes_each row)) (sum (nodes_each row))) (sum (nodes_each row)) (lowered_each schema joiner row)
 
-  row_some : {m : _} (row : Row_of-KTree m) → SomeSound schema row → 1 ≤ length (lowered_each schema row)
+  row_some : {m : _} (row : Row_of-KTree m) → SomeSound schema row → 1 ≤ length (lowered_each schema joiner row)
   row_some end_of-KTree sound = absurd sound
   row_some (more_of-KTree part rest) sound = omega arith
 
   two_rows : {m n : _} (left : Row_of-KTree m) (right : Row_of-KTree n) → SomeSound schema left → SomeSound schema right →
-      2 ≤ length (lowered_each schema left ++ lowered_each schema right)
-  two_rows left right h k = omega (arith, length-append (lowered_each schema left) (lowered_each schema right), row_some left h, row_some right k)
+      2 ≤ length (lowered_each schema joiner left ++ lowered_each schema joiner right)
+  two_rows left right h k = omega (arith, length-append (lowered_each schema joiner left) (lowered_each schema joiner right), row_some left h, row_some right k)
 
-  row_more : {m : _} (part : KTree) (rest : Row_of-KTree m) → Fits (room (text_bytes part) (nodes part)) (nodes part) (lowered schema part) → RowFits rest →
+  row_more : {m : _} (part : KTree) (rest : Row_of-KTree m) → Fits (room (text_bytes part) (nodes part)) (nodes part) (lowered schema joiner part) → RowFits rest →
       RowFits (more_of-KTree part rest)
   row_more part rest h k =
       let texts = sum_by-cons (λ n. n) (text_bytes part) (text_bytes_each rest) in
@@ -255,9 +256,9 @@ module _ (schema : List Property) (good : IsSchema schema) where
       }
 
   abbrev OperandsFit : {m : _} → Row_of-KOperand m → Type 0
-  OperandsFit row = FitOperands (room (sum (text_bytes_of row)) (sum (nodes_of row))) (sum (nodes_of row)) (forms schema row)
+  OperandsFit row = FitOperands (room (sum (text_bytes_of row)) (sum (nodes_of row))) (sum (nodes_of row)) (forms schema joiner row)
 
-  operands_more : {m : _} (sign : Sign) (tree : KTree) (rest : Row_of-KOperand m) → Fits (room (text_bytes tree) (nodes tree)) (nodes tree) (lowered schema tree) →
+  operands_more : {m : _} (sign : Sign) (tree : KTree) (rest : Row_of-KOperand m) → Fits (room (text_bytes tree) (nodes tree)) (nodes tree) (lowered schema joiner tree) →
       OperandsFit rest → OperandsFit (more_of-KOperand sign tree rest)
   operands_more sign tree rest h k =
       let texts = sum_by-cons (λ n. n) (text_bytes tree) (text_bytes_of rest) in
@@ -269,12 +270,12 @@ module _ (schema : List Property) (good : IsSchema schema) where
         few_xranks = omega (arith, count, h.few_xranks, k.few_xranks);
       }
 
-  some_operands : {m : _} (row : Row_of-KOperand m) → SomeOperandsSound schema row → OperandsFit row → SomeOf Formed (forms schema row)
+  some_operands : {m : _} (row : Row_of-KOperand m) → SomeOperandsSound schema row → OperandsFit row → SomeOf Formed (forms schema joiner row)
   some_operands end_of-KOperand sound fit = absurd sound
   some_operands (more_of-KOperand sign tree rest) sound fit = fit.form
 
   mutual
-    tree_fits : (k : KTree) → PartsSound schema k → Fits (room (text_bytes k) (nodes k)) (nodes k) (lowered schema k)
+    tree_fits : (k : KTree) → PartsSound schema k → Fits (room (text_bytes k) (nodes k)) (nodes k) (lowered schema joiner k)
     tree_fits (Free leaf) sound = wider _ 0 _ _ _ (omega arith) (omega arith) (phrase_fits leaf sound)
     tree_fits All sound = record { form = tt; few_bytes = omega arith; few_xranks = omega arith }
     tree_fits (Words leaves) sound = wider _ 0 _ _ _ (omega arith) (omega arith) (words_fit leaves sound.0 sound.1)
@@ -284,26 +285,26 @@ module _ (schema : List Property) (good : IsSchema schema) where
     tree_fits (ValueTest property r first last) sound =
         wider 40 0 _ _ _ (omega arith) (omega arith) (value_test_fits schema good property (slice_get schema property) r first last refl sound)
     tree_fits (Near' s left t right n ordered) sound =
-        let fit = fit_both _ _ _ _ (lowered_each schema left) (lowered_each schema right) (some_fit left sound.0) (some_fit right sound.1) in
+        let fit = fit_both _ _ _ _ (lowered_each schema joiner left) (lowered_each schema joiner right) (some_fit left sound.0) (some_fit right sound.1) in
         wider _ _ _ _ _ (omega arith) (omega arith)
         (near_fits _ _ n ordered _ (near_form n ordered _ sound.3 (two_rows left right sound.0 sound.1) fit.form) fit)
     tree_fits (Run' shape operands) sound =
         let fit = some_operands_fit operands sound in
-        wider _ _ _ _ _ (omega arith) (omega arith) (run_fits _ _ (forms schema operands) (some_operands operands sound fit) fit)
+        wider _ _ _ _ _ (omega arith) (omega arith) (run_fits _ _ joiner (forms schema joiner operands) (some_operands operands sound fit) fit)
     tree_fits (And' shape parts) sound =
         let fit = some_fit parts sound in
         wider _ _ _ _ _ (omega arith) (omega arith)
-        (applied op.And _ _ (lowered_each schema parts) refl
-        (form_apply 0 op.And (lowered_each schema parts) (row_some parts sound) tt (λ are. absurd (false≢true are)) tt fit.form) fit)
+        (applied op.And _ _ (lowered_each schema joiner parts) refl
+        (form_apply 0 op.And (lowered_each schema joiner parts) (row_some parts sound) tt (λ are. absurd (false≢true are)) tt fit.form) fit)
     tree_fits (Or' shape parts) sound =
         let fit = some_fit parts sound in
         wider _ _ _ _ _ (omega arith) (omega arith)
-        (applied op.Or _ _ (lowered_each schema parts) refl
-        (form_apply 0 op.Or (lowered_each schema parts) (row_some parts sound) tt (λ are. absurd (false≢true are)) tt fit.form) fit)
+        (applied op.Or _ _ (lowered_each schema joiner parts) refl
+        (form_apply 0 op.Or (lowered_each schema joiner parts) (row_some parts sound) tt (λ are. absurd (false≢true are)) tt fit.form) fit)
     tree_fits (Xrank' s matched t ranked cb) sound =
-        let fit = fit_both _ _ _ _ (lowered_each schema matched) (lowered_each schema ranked) (some_fit matched sound.0) (some_fit ranked sound.1) in
+        let fit = fit_both _ _ _ _ (lowered_each schema joiner matched) (lowered_each schema joiner ranked) (some_fit matched sound.0) (some_fit ranked sound.1) in
         wider _ _ _ _ _ (omega arith) (omega arith)
-        (ranked_fits (op.Xrank cb) _ _ (lowered_each schema matched ++ lowered_each schema ranked)
+        (ranked_fits (op.Xrank cb) _ _ (lowered_each schema joiner matched ++ lowered_each schema joiner ranked)
         (form_apply 0 (op.Xrank cb) _ (two_rows matched ranked sound.0 sound.1) tt (λ are. absurd (false≢true are)) (boost_few cb sound.2) fit.form) fit)
 
     some_fit : {m : _} (row : Row_of-KTree m) → SomeSound schema row → RowFits row
@@ -323,9 +324,9 @@ module _ (schema : List Property) (good : IsSchema schema) where
     operands_fit (more_of-KOperand sign tree rest) sound = operands_more sign tree rest (tree_fits tree sound.0) (operands_fit rest sound.1)
 
 -- the tree of a sound KQL tree is well formed
-pub lowered_formed : (schema : List Property) (k : KTree) → IsSchema schema → IsSound schema k → IsWellFormed (lowered schema k)
-lowered_formed schema k good sound =
-    let fit = tree_fits schema good k sound.parts in
+pub lowered_formed : (schema : List Property) (joiner : Joiner) (k : KTree) → IsSchema schema → IsSound schema k → IsWellFormed (lowered schema joiner k)
+lowered_formed schema joiner k good sound =
+    let fit = tree_fits schema good joiner k sound.parts in
     record {
       form = fit.form;
       few_bytes = omega (arith, fit.few_bytes, sound.texts, sound.nodes);

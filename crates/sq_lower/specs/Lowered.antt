@@ -1,4 +1,4 @@
--- The FQL tree that says what a typed KQL tree says. Each place is 0, and names are spelled as in the schema.
+-- The FQL tree that says what a typed KQL tree says under a joiner. Each place is 0, and names are spelled as in the schema.
 use Rattle.std.specs.Prelude.{ℕ, Bool, true, false, if◌then◌else◌, List, [], ◌∷◌, ◌++◌, map, slice_get, codes, Option, Some, None, ℤ, pos}
 use Rattle.std.specs.Ordering.{int_eq}
 use Rattle.std.specs.Fmt.{signed_decimal}
@@ -6,8 +6,10 @@ use Rattle.sq_schema.specs.declared.property.Kind.{Kind}
 use Rattle.sq_schema.specs.declared.property.Kind.TheVariants as kind
 use Rattle.sq_schema.specs.declared.property.Property.{Property}
 use Rattle.sq_schema.specs.Moments.{text_of_moment}
-use Rattle.sq_model.specs.Kql.{restricted}
+use Rattle.sq_model.specs.Kql.{role}
 use Rattle.sq_model.specs.declared.leaf.Leaf.{Leaf}
+use Rattle.sq_model.specs.declared.kql.Joiner.{Joiner}
+use Rattle.sq_model.specs.declared.kql.KOperand.{KOperand}
 use Rattle.sq_model.specs.declared.kql.Relation.{Relation}
 use Rattle.sq_model.specs.declared.kql.Relation.TheVariants as relation
 use Rattle.sq_model.specs.declared.kql.KTree.{KTree, Free, All, Words, Group', TextTest, ValueTest, Near', Run', And', Or', Xrank', Row_of-KTree, end_of-KTree, more_of-KTree, Row_of-KOperand, end_of-KOperand, more_of-KOperand}
@@ -17,7 +19,7 @@ use Rattle.sq_fql.specs.declared.raw.FRaw.TheVariants as raw
 use Rattle.sq_fql.specs.declared.raw.Mode.TheVariants as mode
 use Rattle.sq_fql.specs.declared.raw.Op.{Op}
 use Rattle.sq_fql.specs.declared.raw.Op.TheVariants as op
-use Rattle.sq_lower.specs.Runs.{Joins, Form, run_form}
+use Rattle.sq_lower.specs.Runs.{Connectives, Form, run_form}
 
 -- ---- parts of FQL trees
 
@@ -95,15 +97,15 @@ value_test (Some row) r first last = value_form row.name row.kind r first last
 
 -- ---- trees
 
-abbrev pub raw_joins : Joins FRaw
-raw_joins = record {
+abbrev pub raw_connectives : Connectives FRaw
+raw_connectives = record {
   all = apply op.And;
   any = apply op.Or;
   negated = negated;
   without = λ form others. apply op.AndNot (form ∷ others);
 }
 
-module _ (schema : List Property) where
+module _ (schema : List Property) (joiner : Joiner) where
   abbrev mutual
     pub lowered : KTree → FRaw
     lowered (Free leaf) = phrase leaf
@@ -113,7 +115,7 @@ module _ (schema : List Property) where
     lowered (TextTest property r leaf) = text_test (slice_get schema property) r leaf
     lowered (ValueTest property r first last) = value_test (slice_get schema property) r first last
     lowered (Near' s left t right n ordered) = near n ordered (lowered_each left ++ lowered_each right)
-    lowered (Run' shape operands) = run_form raw_joins (forms operands)
+    lowered (Run' shape operands) = run_form raw_connectives joiner (forms operands)
     lowered (And' shape parts) = apply op.And (lowered_each parts)
     lowered (Or' shape parts) = apply op.Or (lowered_each parts)
     lowered (Xrank' s matched t ranked cb) = apply (op.Xrank cb) (lowered_each matched ++ lowered_each ranked)
@@ -124,4 +126,8 @@ module _ (schema : List Property) where
 
     pub forms : {m : _} → Row_of-KOperand m → List (Form FRaw)
     forms end_of-KOperand = []
-    forms (more_of-KOperand sign tree rest) = record { sign = sign; property = restricted sign tree; form = lowered tree } ∷ forms rest
+    forms (more_of-KOperand sign tree rest) = record { sign = sign; role = role sign tree; form = lowered tree } ∷ forms rest
+
+  -- an operand of a run, with its form
+  abbrev pub operand_form : KOperand → Form FRaw
+  operand_form operand = record { sign = operand.sign; role = role operand.sign operand.tree; form = lowered operand.tree }

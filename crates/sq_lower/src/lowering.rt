@@ -5,14 +5,15 @@ ghost use Rattle.sq_model.specs.declared.kql.KTree.TheVariants as tree;
 ghost use Rattle.sq_model.specs.KqlSound.{IsSound, PartsSound};
 ghost use Rattle.sq_fql.specs.WellFormed.{IsWellFormed};
 ghost use Rattle.sq_typing.specs.Fql.{fql_typed};
-ghost use Rattle.sq_lower.specs.Lowered.{lowered};
+ghost use Rattle.sq_lower.specs.Lowered.{lowered, operand_form};
+ghost use Rattle.sq_lower.specs.Runs.{is_gathered, forms_of};
 
-use crate::build::{apply, near, phrase, two, words};
+use crate::build::{alone_or, apply, near, phrase, two, words};
 use crate::restrictions::{text_test, value_test};
-use crate::runs::{add, empty_run, form_of, restricted};
+use crate::runs::{add, empty_run, form_of, gathers};
 use sq_base::List;
 use sq_fql::{FRaw, Op};
-use sq_model::{KOperand, KTree};
+use sq_model::{Joiner, KOperand, KTree, role_of};
 use sq_schema::{
     Schema, moments_are_written, moments_read_back, names_find_rows, numbers_read_back,
 };
@@ -20,9 +21,9 @@ use std::alloc::{AllocError, Global};
 
 #[cycle(lowered)]
 #[tactic(auto, using(crate::proofs::TreeEquations::lowered_rules))]
-fn tree_of(alloc: Global, tree: &KTree, schema: &Schema) -> Result<FRaw, AllocError>
+fn tree_of(alloc: Global, tree: &KTree, schema: &Schema, joiner: Joiner) -> Result<FRaw, AllocError>
     requires { PartsSound schema.now tree.now }
-    ensures { IfOk result (λ raw. raw ≡ lowered schema.now tree.now) }
+    ensures { IfOk result (λ raw. raw ≡ lowered schema.now joiner tree.now) }
 {
     match tree {
         KTree::Free(leaf) => {
@@ -35,7 +36,7 @@ fn tree_of(alloc: Global, tree: &KTree, schema: &Schema) -> Result<FRaw, AllocEr
             Ok(form)
         }
         KTree::Group(inside) => {
-            let form = tree_of(alloc, inside.get(), schema)?;
+            let form = tree_of(alloc, inside.get(), schema, joiner)?;
             Ok(form)
         }
         KTree::TextTest {
@@ -61,21 +62,21 @@ fn tree_of(alloc: Global, tree: &KTree, schema: &Schema) -> Result<FRaw, AllocEr
             n,
             ordered,
         } => {
-            let left = tree_of(alloc, left.get(), schema)?;
-            let right = tree_of(alloc, right.get(), schema)?;
+            let left = tree_of(alloc, left.get(), schema, joiner)?;
+            let right = tree_of(alloc, right.get(), schema, joiner)?;
             let form = near(alloc, *n, *ordered, left, right)?;
             Ok(form)
         }
         KTree::Run(operands) => {
-            let form = run_of(alloc, operands.as_slice(), schema)?;
+            let form = run_of(alloc, operands.as_slice(), schema, joiner)?;
             Ok(form)
         }
         KTree::And(parts) => {
-            let parts = trees_of(alloc, parts.as_slice(), schema)?;
+            let parts = trees_of(alloc, parts.as_slice(), schema, joiner)?;
             Ok(apply(Op::And, parts))
         }
         KTree::Or(parts) => {
-            let parts = trees_of(alloc, parts.as_slice(), schema)?;
+            let parts = trees_of(alloc, parts.as_slice(), schema, joiner)?;
             Ok(apply(Op::Or, parts))
         }
         KTree::Xrank {
@@ -83,8 +84,8 @@ fn tree_of(alloc: Global, tree: &KTree, schema: &Schema) -> Result<FRaw, AllocEr
             ranked,
             cb,
         } => {
-            let matched = tree_of(alloc, matched.get(), schema)?;
-            let ranked = tree_of(alloc, ranked.get(), schema)?;
+            let matched = tree_of(alloc, matched.get(), schema, joiner)?;
+            let ranked = tree_of(alloc, ranked.get(), schema, joiner)?;
             let operands = two(alloc, matched, ranked)?;
             Ok(apply(Op::Xrank { cb: *cb }, operands))
         }
@@ -92,37 +93,83 @@ fn tree_of(alloc: Global, tree: &KTree, schema: &Schema) -> Result<FRaw, AllocEr
 }
 
 #[cycle(lowered)]
-fn trees_of(alloc: Global, parts: &[KTree], schema: &Schema) -> Result<List<FRaw>, AllocError>
+fn trees_of(
+    alloc: Global,
+    parts: &[KTree],
+    schema: &Schema,
+    joiner: Joiner,
+) -> Result<List<FRaw>, AllocError>
     requires { All (PartsSound schema.now) parts.now }
-    ensures { IfOk result (λ forms. forms ≡ map (lowered schema.now) parts.now) }
+    ensures { IfOk result (λ forms. forms ≡ map (lowered schema.now joiner) parts.now) }
 {
     let mut forms = List::new(alloc);
     for part in parts {
-        let form = tree_of(alloc, part, schema)?;
+        let form = tree_of(alloc, part, schema, joiner)?;
         forms.push(form)?;
     }
     Ok(forms)
 }
 
+/// The forms of the operands that are gathered to one.
 #[cycle(lowered)]
-fn run_of(alloc: Global, operands: &[KOperand], schema: &Schema) -> Result<FRaw, AllocError>
+fn gathered_of(
+    alloc: Global,
+    operands: &[KOperand],
+    schema: &Schema,
+    joiner: Joiner,
+) -> Result<List<FRaw>, AllocError>
     requires { All (λ operand. PartsSound schema.now operand.tree) operands.now }
-    ensures { IfOk result (λ raw. raw ≡ lowered schema.now (tree.Run operands.now)) }
+    ensures { IfOk result (λ forms. forms ≡ forms_of (is_gathered joiner) (map (operand_form schema.now joiner) operands.now)) }
 {
+    let mut forms = List::new(alloc);
+    for operand in operands {
+        if gathers(joiner, role_of(operand.sign, &operand.tree)) {
+            let form = tree_of(alloc, &operand.tree, schema, joiner)?;
+            forms.push(form)?;
+        }
+    }
+    Ok(forms)
+}
+
+/// The gathered operands stand in the place of the first of them.
+#[cycle(lowered)]
+fn run_of(
+    alloc: Global,
+    operands: &[KOperand],
+    schema: &Schema,
+    joiner: Joiner,
+) -> Result<FRaw, AllocError>
+    requires { All (λ operand. PartsSound schema.now operand.tree) operands.now }
+    ensures { IfOk result (λ raw. raw ≡ lowered schema.now joiner (tree.Run operands.now)) }
+{
+    let forms = gathered_of(alloc, operands, schema, joiner)?;
+    let mut gathered = Some(alone_or(Op::Or, forms));
     let mut run = empty_run(alloc);
     for operand in operands {
-        let form = tree_of(alloc, &operand.tree, schema)?;
-        let property = restricted(operand.sign, &operand.tree);
-        add(alloc, &mut run, operand.sign, property, form)?;
+        let role = role_of(operand.sign, &operand.tree);
+        if gathers(joiner, role) {
+            if let Some(form) = gathered.take() {
+                add(alloc, &mut run, operand.sign, role, form)?;
+            }
+        } else {
+            let form = tree_of(alloc, &operand.tree, schema, joiner)?;
+            add(alloc, &mut run, operand.sign, role, form)?;
+        }
     }
     let form = form_of(alloc, run)?;
     Ok(form)
 }
 
-/// The FQL tree that says what a KQL tree says. The only error is want of memory.
-pub fn lower(alloc: Global, tree: &KTree, schema: &Schema) -> Result<FRaw, AllocError>
+/// The FQL tree that says what a KQL tree says, where the joiner is that of the loose operands of its runs. The only
+/// error is want of memory.
+pub fn lower(
+    alloc: Global,
+    tree: &KTree,
+    schema: &Schema,
+    joiner: Joiner,
+) -> Result<FRaw, AllocError>
     requires sound { IsSound schema.now tree.now }
-    ensures value { IfOk result (λ raw. raw ≡ lowered schema.now tree.now) }
+    ensures value { IfOk result (λ raw. raw ≡ lowered schema.now joiner tree.now) }
     ensures formed { IfOk result IsWellFormed }
     ensures typed { IfOk result (λ raw. IsOk (fql_typed schema.now raw)) }
 {
@@ -131,6 +178,6 @@ pub fn lower(alloc: Global, tree: &KTree, schema: &Schema) -> Result<FRaw, Alloc
     moments_read_back();
     moments_are_written();
     let _rows = schema.len();
-    let raw = tree_of(alloc, tree, schema)?;
+    let raw = tree_of(alloc, tree, schema, joiner)?;
     Ok(raw)
 }

@@ -1,10 +1,10 @@
 //! Operands side by side, of which restrictions of one property stand for one another.
 
-ghost use Rattle.std.specs.Prelude.{◌≡◌, false, [], ◌∷◌, ◌++◌, map, nat_eq, IfOk, OnOk, IfSome, MatchOption};
+ghost use Rattle.std.specs.Prelude.{◌≡◌, true, [], ◌∷◌, ◌++◌, map, nat_eq, IfOk, OnOk, MatchOption};
 ghost use Rattle.std.specs.Option.{unwrap_or};
 ghost use Rattle.indexmap.specs.IndexMap.{get, insert_entry};
 ghost use Rattle.sq_fql.specs.declared.raw.FRaw.{FRaw as Raw};
-ghost use Rattle.sq_model.specs.Kql.{is_restriction, restricted};
+ghost use Rattle.sq_model.specs.Kql.{restricted};
 ghost use Rattle.sq_lower.specs.Lowered as spec;
 ghost use Rattle.sq_lower.specs.Runs as runs;
 
@@ -12,7 +12,7 @@ use crate::build::{alone_or, apply, negated};
 use indexmap::IndexMap;
 use sq_base::List;
 use sq_fql::{FRaw, Op};
-use sq_model::{KTree, Relation, Sign};
+use sq_model::{Joiner, Role, Sign};
 use std::alloc::{AllocError, Global};
 
 /// The forms of the operands that were seen.
@@ -36,47 +36,13 @@ pub(crate) fn empty_run(alloc: Global) -> Run
     }
 }
 
-fn is_restriction(relation: Relation) -> bool
-    ensures { result ≡ is_restriction relation }
+/// Whether operands of the role are gathered to one.
+pub(crate) fn gathers(joiner: Joiner, role: Role) -> bool
+    ensures { result ≡ runs.gathers joiner role }
 {
-    matches!(relation, Relation::Has | Relation::Equal | Relation::Range)
-}
-
-/// The property that an operand restricts, if it is a plain restriction written with `:` or `=`.
-pub(crate) fn restricted(sign: Sign, tree: &KTree) -> Option<u32>
-    ensures { result ≡ restricted sign tree.now }
-{
-    match sign {
-        Sign::Plain => match tree {
-            KTree::TextTest {
-                property,
-                relation,
-                ..
-            } => if is_restriction(*relation) {
-                Some(*property)
-            } else {
-                None
-            },
-            KTree::ValueTest {
-                property,
-                relation,
-                ..
-            } => if is_restriction(*relation) {
-                Some(*property)
-            } else {
-                None
-            },
-            KTree::Free(_)
-            | KTree::All
-            | KTree::Words(_)
-            | KTree::Group(_)
-            | KTree::Near { .. }
-            | KTree::Run(_)
-            | KTree::And(_)
-            | KTree::Or(_)
-            | KTree::Xrank { .. } => None,
-        },
-        Sign::Plus | Sign::Minus => None,
+    match joiner {
+        Joiner::All => false,
+        Joiner::Any => role == Role::Loose,
     }
 }
 
@@ -101,25 +67,25 @@ fn restrict(
     }
 }
 
-/// Adds the form of an operand, and the property that it restricts.
+/// Adds the form of an operand.
 pub(crate) fn add(
     alloc: Global,
     run: &mut Run,
     sign: Sign,
-    property: Option<u32>,
+    role: Role,
     form: FRaw,
 ) -> Result<(), AllocError>
-    requires { IfSome property (λ _. runs.is_minus sign ≡ false) }
-    ensures required { let o : runs.Form Raw = record { sign = sign; property = property; form = form } in OnOk result (run.new.required ≡ run.old.required ++ runs.forms_of runs.is_required (o ∷ [])) }
-    ensures restrictions { OnOk result (MatchOption property (run.new.restrictions.entries ≡ run.old.restrictions.entries) (λ p. run.new.restrictions.entries ≡ insert_entry nat_eq run.old.restrictions.entries p (unwrap_or (get nat_eq run.old.restrictions p) [] ++ form ∷ []))) }
-    ensures subtracted { let o : runs.Form Raw = record { sign = sign; property = property; form = form } in OnOk result (run.new.subtracted ≡ run.old.subtracted ++ runs.forms_of runs.is_subtracted (o ∷ [])) }
+    requires { runs.is_minus sign ≡ true → role ≡ Role.Other }
+    ensures required { let o : runs.Form Raw = record { sign = sign; role = role; form = form } in OnOk result (run.new.required ≡ run.old.required ++ runs.forms_of runs.is_required (o ∷ [])) }
+    ensures restrictions { OnOk result (MatchOption (restricted role) (run.new.restrictions.entries ≡ run.old.restrictions.entries) (λ p. run.new.restrictions.entries ≡ insert_entry nat_eq run.old.restrictions.entries p (unwrap_or (get nat_eq run.old.restrictions p) [] ++ form ∷ []))) }
+    ensures subtracted { let o : runs.Form Raw = record { sign = sign; role = role; form = form } in OnOk result (run.new.subtracted ≡ run.old.subtracted ++ runs.forms_of runs.is_subtracted (o ∷ [])) }
 {
-    match property {
-        Some(property) => {
+    match role {
+        Role::Restricts(property) => {
             restrict(alloc, &mut run.restrictions, property, form)?;
             Ok(())
         }
-        None => {
+        Role::Loose | Role::Other => {
             if matches!(sign, Sign::Minus) {
                 run.subtracted.push(form)?;
             } else {
@@ -155,7 +121,7 @@ fn without(form: FRaw, others: List<FRaw>) -> Result<FRaw, AllocError>
 
 /// The first forms, and none of the others.
 fn less(alloc: Global, wanted: List<FRaw>, minus: List<FRaw>) -> Result<FRaw, AllocError>
-    ensures { IfOk result (λ raw. raw ≡ runs.less spec.raw_joins wanted minus) }
+    ensures { IfOk result (λ raw. raw ≡ runs.less spec.raw_connectives wanted minus) }
 {
     if wanted.len() == 0 {
         let form = negated(alloc, alone_or(Op::Or, minus))?;
@@ -171,7 +137,7 @@ fn less(alloc: Global, wanted: List<FRaw>, minus: List<FRaw>) -> Result<FRaw, Al
 
 /// The form of a run whose operands were all seen.
 pub(crate) fn form_of(alloc: Global, run: Run) -> Result<FRaw, AllocError>
-    ensures { IfOk result (λ raw. raw ≡ runs.less spec.raw_joins (run.required ++ map (λ group. runs.alone_or (spec.apply Op.Or) group.1) run.restrictions.entries) run.subtracted) }
+    ensures { IfOk result (λ raw. raw ≡ runs.less spec.raw_connectives (run.required ++ map (λ group. runs.alone_or (spec.apply Op.Or) group.1) run.restrictions.entries) run.subtracted) }
 {
     let wanted = members(run.required, run.restrictions)?;
     let form = less(alloc, wanted, run.subtracted)?;

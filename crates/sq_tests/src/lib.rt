@@ -9,6 +9,8 @@ mod cursor;
 #[cfg(test)]
 mod fql;
 #[cfg(test)]
+mod http;
+#[cfg(test)]
 mod lex;
 #[cfg(test)]
 mod lower;

@@ -1,9 +1,7 @@
 -- What typing FQL gives is sound, part by part.
-use Rattle.std.proofs.Common.{◌≡◌, ℕ, zero, suc, ◌+◌, ◌<◌, ◌≤◌, Bool, true, false, ◌&&◌, List, [], ◌∷◌, map, length, Option, Some, None, refl, sym, subst, arith}
-use Rattle.std.specs.Prelude.{Ok, Err, IfOk, IfSome, if◌then◌else◌, nat_le, ℤ, int_le, unsigned_abs, position, option_map, option_and_then}
+use Rattle.std.proofs.Common.{◌≡◌, ℕ, zero, suc, ◌+◌, ◌<◌, ◌≤◌, Bool, true, false, List, [], ◌∷◌, map, length, Option, Some, None, refl, sym, subst, arith}
+use Rattle.std.specs.Prelude.{Ok, Err, IfOk, IfSome, if◌then◌else◌, nat_le, ℤ, position, option_map, option_and_then}
 use Rattle.std.specs.List.{AllByRecursion, range_with_len}
-use Rattle.std.proofs.Common.{pos, neg_ℤ, ◌≤ℤ◌}
-use Rattle.std.proofs.lemmas.Int.{ints}
 use Rattle.std.proofs.lemmas.Bool.{le-leb}
 use Rattle.sq_schema.specs.declared.interval.Interval.{Interval}
 use Rattle.sq_schema.specs.declared.property.Kind.{Kind}
@@ -12,7 +10,6 @@ use Rattle.sq_schema.specs.declared.property.Property.{Property}
 use Rattle.sq_schema.specs.Properties.{has_name}
 use Rattle.sq_model.specs.Copies.{copies}
 use Rattle.sq_model.specs.Kinds.{kind_of, is_number_property, is_boost}
-use Rattle.sq_schema.specs.Bounds.{is_from_to}
 use Rattle.sq_model.specs.FqlSound.{is_look, SpansSound, SomeSpansSound, EachSpansSound, PartsSound, SomeSound, EachSound}
 use Rattle.sq_model.specs.declared.leaf.Leaf.{Leaf}
 use Rattle.sq_model.specs.declared.fql.Look.{Look}
@@ -41,6 +38,7 @@ use Rattle.sq_typing.specs.FqlNumbers.{value_in, yes_no_in, within, numbers}
 use Rattle.sq_typing.specs.Fql.{lone, string_span, joined_spans, joined_all, joins, proximity, proximate, proximate_each, with_few_copies, every_token, outermost, in_texts, in_scope, is_for_all, made, some_trees, only_tree, first_and_others, combined, combined_all, applied, every_item, literal, typed_at, typed_each}
 use Rattle.sq_typing.proofs.FqlFilled.{HasToken, string_some}
 use Rattle.sq_typing.proofs.TogetherLemmas.{if_mapped, if_together, if_bound}
+use Rattle.sq_typing.proofs.ValueLemmas.{boost_is}
 
 -- there is one, and it holds of all
 abbrev SomeOf : {X : Type 0} → (X → Type 0) → List X → Type 0
@@ -213,18 +211,6 @@ module _ (schema : List Property) where
   xrank_sound : (t : FTree) (ts : List FTree) (cb : ℤ) → Sound t → SomeOf Sound ts → is_boost cb ≡ true → Sound (tree.Xrank t ts cb)
   unfolding shape-the_row-FTree-1 hidden-the_row-FTree-1 denote.Hole.Carrier.hidden
   xrank_sound t ts cb h k boost = ((h, tt), some_list ts k, boost)
-
-int_le-true : (m n : ℤ) → m ≤ℤ n → int_le m n ≡ true
-int_le-true m n h = grind (arith, ints)
-
-both : (a b : Bool) → a ≡ true → b ≡ true → (a && b) ≡ true
-both a b h k = rw (h, k) refl
-
-from_to_is : (first last n : ℤ) → first ≤ℤ n → n ≤ℤ last → is_from_to first last n ≡ true
-from_to_is first last n h k = both _ _ (int_le-true first n h) (int_le-true n last k)
-
-boost_is : (cb : ℤ) → unsigned_abs cb ≤ 1_000_000 → is_boost cb ≡ true
-boost_is cb h = from_to_is (neg_ℤ (pos 1_000_000)) (pos 1_000_000) cb (omega (arith, ints)) (omega (arith, ints))
 
 -- ---- places
 

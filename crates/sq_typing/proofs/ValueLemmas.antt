@@ -15,7 +15,8 @@ use Rattle.sq_model.specs.Kinds.{is_same, is_boost}
 use Rattle.sq_schema.specs.Bounds.{is_from_to, is_integer_value, is_moment_value}
 use Rattle.sq_base.specs.Outcome.{or_refused}
 use Rattle.sq_kql.specs.declared.raw.Piece.{Piece}
-use Rattle.sq_typing.specs.KqlValues.{number_at, number_value, moment_value, yes_no_number, yes_no_value, from_to, bounds}
+use Rattle.sq_typing.specs.KqlValues.{number_value, moment_value, yes_no_value, range_of, bounds}
+use Rattle.sq_typing.specs.Numbers.{number_at, yes_no_number}
 use Rattle.sq_typing.proofs.TogetherLemmas.{if_together, if_weaker}
 
 int_le-true : (m n : ℤ) → m ≤ℤ n → int_le m n ≡ true
@@ -77,7 +78,7 @@ number_is p = number_at_is p.at (number_of p.text) (number_fits p.text)
 pub numbers_are : (value : Piece) (upper : Option Piece) → IfOk (bounds number_value value upper) AreNumbers
 numbers_are value None = if_weaker (number_value value) IsNumber AreNumbers (number_is value) (λ i h. record { first = h.first; last = h.last })
 numbers_are value (Some upper) =
-    if_together from_to (number_value value) (number_value upper) IsNumber IsNumber AreNumbers (number_is value) (number_is upper)
+    if_together range_of (number_value value) (number_value upper) IsNumber IsNumber AreNumbers (number_is value) (number_is upper)
     (λ i j h k. record { first = h.first; last = k.last })
 
 -- ---- moments
@@ -107,7 +108,7 @@ module _ (now : ℤ) (calendar : Calendar now) where
   pub moments_are : (value : Piece) (upper : Option Piece) → IfOk (bounds (moment_value now) value upper) AreMoments
   moments_are value None = moment_is value
   moments_are value (Some upper) =
-      if_together from_to (moment_value now value) (moment_value now upper) AreMoments AreMoments AreMoments (moment_is value) (moment_is upper)
+      if_together range_of (moment_value now value) (moment_value now upper) AreMoments AreMoments AreMoments (moment_is value) (moment_is upper)
       (λ i j h k. record { first = h.first; last = k.last })
 
 -- ---- yes or no

@@ -1,10 +1,8 @@
 -- The numbers that a scope of another kind than Text asks for. [MS-FQL2]
-use Rattle.std.specs.Prelude.{ℕ, List, [], ◌∷◌, Bool, true, false, if◌then◌else◌, codes, option_map, Result, Ok, Err, ℤ, pos, ◌+ℤ◌, ◌-ℤ◌, int_le}
+use Rattle.std.specs.Prelude.{ℕ, List, [], ◌∷◌, Bool, true, false, if◌then◌else◌, codes, option_map, Ok, Err, ℤ, pos, ◌+ℤ◌, ◌-ℤ◌, int_le}
 use Rattle.std.specs.Str.{bytes_eq}
 use Rattle.sq_schema.specs.declared.property.Property.{Property}
 use Rattle.sq_schema.specs.declared.interval.Interval.{Interval}
-use Rattle.sq_schema.specs.declared.values.NumberFault.{NumberFault}
-use Rattle.sq_schema.specs.declared.values.NumberFault.TheVariants.{Shape, Range}
 use Rattle.sq_schema.specs.Bounds.{least_number, greatest_number}
 use Rattle.sq_schema.specs.Dates.{interval_of}
 use Rattle.sq_schema.specs.Intervals.{single}
@@ -16,22 +14,18 @@ use Rattle.sq_fql.specs.declared.raw.FPiece.{FPiece}
 use Rattle.sq_fql.specs.declared.raw.Op.{Op}
 use Rattle.sq_fql.specs.declared.raw.Op.TheVariants as op
 use Rattle.sq_fql.specs.declared.raw.FRaw.{FRaw, All, Literal, Scope', Apply'}
-use Rattle.sq_typing.specs.declared.codes.TheConstants.{WRONG_OPERATOR, BAD_NUMBER, NUMBER_OUT_OF_RANGE, BAD_DATE, BAD_YES_NO}
+use Rattle.sq_typing.specs.declared.codes.TheConstants.{WRONG_OPERATOR, BAD_DATE, BAD_YES_NO}
 use Rattle.sq_typing.specs.declared.fql_place.Measure.{Measure}
 use Rattle.sq_typing.specs.declared.fql_place.Measure.TheVariants as measure
 use Rattle.sq_typing.specs.FqlPlaces.{misplaced}
 use Rattle.sq_typing.specs.FqlTexts.{unread, listed, only_literal, read_only}
+use Rattle.sq_typing.specs.Numbers.{number_at, yes_no_number}
 use Rattle.sq_typing.specs.Together.{together}
 
 -- ---- literals
 
-abbrev pub number_or : ℕ → Result ℤ NumberFault → Outcome Interval
-number_or at (Ok n) = Ok (single n)
-number_or at (Err Shape) = refused BAD_NUMBER at
-number_or at (Err Range) = refused NUMBER_OUT_OF_RANGE at
-
 unfoldable pub number_in : FPiece → Outcome Interval
-number_in p = number_or p.at (number_of p.text)
+number_in p = number_at p.at (number_of p.text)
 
 unfoldable pub date_in : FPiece → Outcome Interval
 date_in p = or_refused (interval_of p.text) BAD_DATE p.at
@@ -39,11 +33,6 @@ date_in p = or_refused (interval_of p.text) BAD_DATE p.at
 abbrev pub value_in : Measure → FPiece → Outcome Interval
 value_in measure.Integer p = number_in p
 value_in measure.DateTime p = date_in p
-
--- yes is 1, and no is 0
-abbrev pub yes_no_number : Bool → Interval
-yes_no_number true = single (pos 1)
-yes_no_number false = single (pos 0)
 
 unfoldable pub yes_no_in : FPiece → Outcome Interval
 yes_no_in p = or_refused (option_map yes_no_number (yes_no_of p.text)) BAD_YES_NO p.at
@@ -90,11 +79,11 @@ abbrev pub last_to : Bool → Interval → ℤ
 last_to below upper = if below then upper.first -ℤ pos 1 else upper.last
 
 -- an empty interval is written as from 1 to 0
-abbrev pub from_to : ℤ → ℤ → Interval
-from_to first last = if int_le first last then record { first = first; last = last } else record { first = pos 1; last = pos 0 }
+abbrev pub interval_or_empty : ℤ → ℤ → Interval
+interval_or_empty first last = if int_le first last then record { first = first; last = last } else record { first = pos 1; last = pos 0 }
 
 unfoldable pub between : Bool → Bool → Interval → Interval → Interval
-between above below lower upper = from_to (first_from above lower) (last_to below upper)
+between above below lower upper = interval_or_empty (first_from above lower) (last_to below upper)
 
 abbrev pub range : List Property → Measure → Bool → Bool → List FRaw → Outcome Interval
 range schema m above below (lower ∷ (upper ∷ [])) = together (between above below) (lower_bound schema m lower) (upper_bound schema m upper)

@@ -1,14 +1,12 @@
 -- What a restriction asks of its property: the property's kind has the relation, and the value is one of its kind.
-use Rattle.std.specs.Prelude.{ℕ, List, Bool, true, false, if◌then◌else◌, position, Option, Some, None, option_map, option_and_then, Result, Ok, Err, ℤ, pos}
+use Rattle.std.specs.Prelude.{ℕ, List, Bool, true, false, if◌then◌else◌, position, Option, Some, None, option_map, option_and_then, Ok, ℤ}
 use Rattle.std.specs.Option.{option_or}
 use Rattle.sq_schema.specs.declared.property.Kind.{Kind}
 use Rattle.sq_schema.specs.declared.property.Kind.TheVariants as kind
 use Rattle.sq_schema.specs.declared.property.Property.{Property}
 use Rattle.sq_schema.specs.declared.interval.Interval.{Interval}
-use Rattle.sq_schema.specs.declared.values.NumberFault.{NumberFault}
-use Rattle.sq_schema.specs.declared.values.NumberFault.TheVariants.{Shape, Range}
 use Rattle.sq_schema.specs.Dates.{interval_of}
-use Rattle.sq_schema.specs.Intervals.{single, moment_interval}
+use Rattle.sq_schema.specs.Intervals.{moment_interval}
 use Rattle.sq_schema.specs.Properties.{has_name}
 use Rattle.sq_schema.specs.Values.{number_of, yes_no_of}
 use Rattle.sq_tokens.specs.Token.{text_tokens}
@@ -25,7 +23,8 @@ use Rattle.sq_lex.specs.declared.lexeme.Relation.{Relation as Spelled}
 use Rattle.sq_lex.specs.declared.lexeme.Relation.TheVariants as spelled
 use Rattle.sq_base.specs.Outcome.{Outcome, refused, or_refused, ◌>>=◌, ◌>>◌}
 use Rattle.sq_kql.specs.declared.raw.Piece.{Piece}
-use Rattle.sq_typing.specs.declared.codes.TheConstants.{UNKNOWN_PROPERTY, WRONG_OPERATOR, BAD_NUMBER, NUMBER_OUT_OF_RANGE, BAD_DATE, BAD_YES_NO, NO_TOKEN, NOT_IN_PROXIMITY}
+use Rattle.sq_typing.specs.declared.codes.TheConstants.{UNKNOWN_PROPERTY, WRONG_OPERATOR, BAD_DATE, BAD_YES_NO, NO_TOKEN, NOT_IN_PROXIMITY}
+use Rattle.sq_typing.specs.Numbers.{number_at, yes_no_number}
 use Rattle.sq_typing.specs.Together.{mapped, together}
 
 abbrev pub relation_of : Spelled → Relation
@@ -70,11 +69,6 @@ unfoldable pub text_value : Piece → Outcome Leaf
 text_value p = or_refused (literal p.text) NO_TOKEN p.at
 
 -- A value of another kind is an interval of numbers.
-abbrev pub number_at : ℕ → Result ℤ NumberFault → Outcome Interval
-number_at at (Ok n) = Ok (single n)
-number_at at (Err Shape) = refused BAD_NUMBER at
-number_at at (Err Range) = refused NUMBER_OUT_OF_RANGE at
-
 unfoldable pub number_value : Piece → Outcome Interval
 number_value p = number_at p.at (number_of p.text)
 
@@ -82,22 +76,17 @@ number_value p = number_at p.at (number_of p.text)
 unfoldable pub moment_value : ℤ → Piece → Outcome Interval
 moment_value now p = or_refused (option_or (interval_of p.text) (moment_interval p.text now)) BAD_DATE p.at
 
--- yes is 1, and no is 0
-abbrev pub yes_no_number : Bool → Interval
-yes_no_number true = single (pos 1)
-yes_no_number false = single (pos 0)
-
 unfoldable pub yes_no_value : Piece → Outcome Interval
 yes_no_value p = or_refused (option_map yes_no_number (yes_no_of p.text)) BAD_YES_NO p.at
 
 -- a range goes from the first number of its lower bound to the last of its upper one
-abbrev pub from_to : Interval → Interval → Interval
-from_to lower upper = record { first = lower.first; last = upper.last }
+abbrev pub range_of : Interval → Interval → Interval
+range_of lower upper = record { first = lower.first; last = upper.last }
 
 -- both bounds of a range are judged
 abbrev pub bounds : (Piece → Outcome Interval) → Piece → Option Piece → Outcome Interval
 bounds value_of value None = value_of value
-bounds value_of value (Some upper) = together from_to (value_of value) (value_of upper)
+bounds value_of value (Some upper) = together range_of (value_of value) (value_of upper)
 
 -- ---- the restriction
 

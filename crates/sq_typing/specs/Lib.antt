@@ -6,5 +6,6 @@ pub mod FqlPlaces
 pub mod FqlTexts
 pub mod Kql
 pub mod KqlValues
+pub mod Numbers
 pub mod SpanForms
 pub mod Together

@@ -115,11 +115,11 @@ fn yes_no_value(piece: &Piece) -> Result<Interval, QueryFault>
 }
 
 /// A range, if both bounds are values.
-fn from_to(
+fn range_of(
     lower: Result<Interval, QueryFault>,
     upper: Result<Interval, QueryFault>,
 ) -> Result<Interval, QueryFault>
-    ensures { result ≡ together spec.from_to lower upper }
+    ensures { result ≡ together spec.range_of lower upper }
 {
     match both(lower, upper) {
         Ok((lower, upper)) => Ok(Interval {
@@ -135,7 +135,7 @@ fn number_bounds(value: &Piece, upper: &Option<Piece>) -> Result<Interval, Query
 {
     match upper {
         None => number_value(value),
-        Some(upper) => from_to(number_value(value), number_value(upper)),
+        Some(upper) => range_of(number_value(value), number_value(upper)),
     }
 }
 
@@ -145,7 +145,7 @@ fn moment_bounds(now: i64, value: &Piece, upper: &Option<Piece>) -> Result<Inter
 {
     match upper {
         None => moment_value(now, value),
-        Some(upper) => from_to(moment_value(now, value), moment_value(now, upper)),
+        Some(upper) => range_of(moment_value(now, value), moment_value(now, upper)),
     }
 }
 

@@ -1,7 +1,7 @@
 use Rattle.std.proofs.Common.{string_bytes}
 use Rattle.sq_corpus.specs.Written.{value_line}
 use Rattle.sq_corpus.specs.Writes.{is_shown}
-use Rattle.sq_corpus.proofs.WriteLemmas.{step-kept, step-passed, ends-kept, rest-all}
+use Rattle.sq_corpus.proofs.WriteLemmas.{step-kept, ends-kept, rest-all}
 use Rattle.sq_corpus.proofs.write.push_values_of.Goals as goal
 
 pub loop-values-preserved-in_ok-push_value : goal.loop-values-preserved-in_ok-push_value

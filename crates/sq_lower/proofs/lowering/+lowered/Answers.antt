@@ -9,11 +9,11 @@ use Rattle.sq_model.specs.KqlSound.{PartsSound}
 use Rattle.sq_model.specs.declared.kql.KOperand.{KOperand}
 use Rattle.sq_model.specs.declared.kql.KTree.TheVariants as tree
 use Rattle.sq_lower.specs.Runs.{Form, run_form}
-use Rattle.sq_lower.specs.Lowered.{apply, near, lowered, raw_joins}
+use Rattle.sq_lower.specs.Lowered.{apply, near, lowered, raw_connectives}
 use Rattle.sq_lower.proofs.SeenRuns.{more_forms, next_form, whole_run}
 use Rattle.sq_lower.proofs.SoundParts.{sound_group, sound_left, sound_right, sound_matched, sound_ranked, sound_and, sound_or, sound_run}
-use Rattle.sq_lower.proofs.TreeEquations.{form_of, lowered_near, lowered_run, lowered_xrank}
-use Rattle.sq_lower.proofs.TreeNodes.{nodes_group, nodes_left, nodes_right, nodes_matched, nodes_ranked, nodes_and, nodes_or, nodes_run, at_most_all, at_most_all_operands, below, below_tree, below_list}
+use Rattle.sq_lower.proofs.TreeEquations.{lowered_near, lowered_run, lowered_xrank}
+use Rattle.sq_lower.proofs.TreeNodes.{nodes_group, nodes_left, nodes_right, nodes_matched, nodes_ranked, nodes_and, nodes_or, nodes_run, at_most_all, at_most_all_operands, below, below_tree, run_below, below_list, below_run}
 use Rattle.sq_lower.proofs.lowering.+lowered.Goals as goal
 
 pub tree_of-tree_of-requires : goal.tree_of-tree_of-requires
@@ -52,7 +52,7 @@ tree_of-tree_of-requires-in-Xrank-2 t c = (
 
 pub tree_of-run_of-requires : goal.tree_of-run_of-requires
 tree_of-run_of-requires t c = (
-  below_tree _ _ _ (nodes_run c.as_slice-in-Run.result.now c.in-Run.operands c.in-Run.is c.as_slice-in-Run.ensures) c.decreases,
+  run_below _ _ _ (nodes_run c.as_slice-in-Run.result.now c.in-Run.operands c.in-Run.is c.as_slice-in-Run.ensures) c.decreases,
   subst (All (λ (operand : KOperand). PartsSound c.args.schema.now operand.tree)) (sym c.as_slice-in-Run.ensures) (sound_run c.args.schema.now c.in-Run.operands c.in-Run.is c.requires),
 )
 
@@ -76,6 +76,13 @@ trees_of-tree_of-requires t c = (
 
 pub run_of-tree_of-requires : goal.run_of-tree_of-requires
 run_of-tree_of-requires t c = (
+  below_run _ _ _ (at_most_all_operands c.args.operands.now c.loop-operand.operand-index c.operand-item.result c.loop-operand-test.true c.operand-item.is) c.decreases,
+  subst (λ (operand : KOperand). PartsSound c.args.schema.now operand.tree) (sym c.operand-item.is)
+      (c.requires c.loop-operand.operand-index c.operand-item.result c.loop-operand-test.true),
+)
+
+pub gathered_of-tree_of-requires : goal.gathered_of-tree_of-requires
+gathered_of-tree_of-requires t c = (
   below_list _ _ _ (at_most_all_operands c.args.operands.now c.loop-operand.operand-index c.operand-item.result c.loop-operand-test.true c.operand-item.is) c.decreases,
   subst (λ (operand : KOperand). PartsSound c.args.schema.now operand.tree) (sym c.operand-item.is)
       (c.requires c.loop-operand.operand-index c.operand-item.result c.loop-operand-test.true),
@@ -83,42 +90,22 @@ run_of-tree_of-requires t c = (
 
 pub tree_of-returns-in_ok-form-in-Near : goal.tree_of-returns-in_ok-form-in-Near
 tree_of-returns-in_ok-form-in-Near t c =
-    let here = lowered c.args.schema.now in
+    let here = lowered c.args.schema.now c.args.joiner in
     c.in_ok-form-in-Near.ensures
     ∙ (ap₂ (λ l r. near c.in-Near.n c.in-Near.ordered (l ∷ r ∷ []))
     (c.in_ok-left-in-Near.ensures ∙ ap here c.get-in-Near.ensures) (c.in_ok-right-in-Near.ensures ∙ ap here c.get-in-Near-2.ensures)
-    ∙ (sym (lowered_near c.args.schema.now c.in-Near.left c.in-Near.right c.in-Near.n c.in-Near.ordered) ∙ ap here (sym c.in-Near.is)))
+    ∙ (sym (lowered_near c.args.schema.now c.args.joiner c.in-Near.left c.in-Near.right c.in-Near.n c.in-Near.ordered) ∙ ap here (sym c.in-Near.is)))
 
 pub tree_of-returns-in_ok-form-in-Run : goal.tree_of-returns-in_ok-form-in-Run
 tree_of-returns-in_ok-form-in-Run t c =
-    let here = lowered c.args.schema.now in
+    let here = lowered c.args.schema.now c.args.joiner in
     c.in_ok-form-in-Run.ensures ∙ (ap (λ os. here (tree.Run os)) c.as_slice-in-Run.ensures ∙ ap here (sym c.in-Run.is))
 
 pub tree_of-returns-in_ok-operands-in-Xrank : goal.tree_of-returns-in_ok-operands-in-Xrank
 tree_of-returns-in_ok-operands-in-Xrank t c =
-    let here = lowered c.args.schema.now in
+    let here = lowered c.args.schema.now c.args.joiner in
     let read : cast_signed w64 (cast_unsigned w64 c.in-Xrank.cb) ≡ c.in-Xrank.cb = grind (arith, ints, to_z-of_z) in
     c.apply-in-Xrank.ensures
     ∙ (ap₂ (λ o l. apply o l) (ap op.Xrank read) (c.in_ok-operands-in-Xrank.ensures
     ∙ ap₂ (λ m r. m ∷ r ∷ []) (c.in_ok-matched-in-Xrank.ensures ∙ ap here c.get-in-Xrank.ensures) (c.in_ok-ranked-in-Xrank.ensures ∙ ap here c.get-in-Xrank-2.ensures))
-    ∙ (sym (lowered_xrank c.args.schema.now c.in-Xrank.matched c.in-Xrank.ranked c.in-Xrank.cb) ∙ ap here (sym c.in-Xrank.is)))
-
-pub run_of-loop-operand-preserved : goal.run_of-loop-operand-preserved
-run_of-loop-operand-preserved t c =
-    let schema = c.args.schema.now in
-    let operand = c.operand-item.result in
-    let i = c.loop-operand.operand-index in
-    let o : Form FRaw = record { sign = operand.sign; property = c.restricted-property.result; form = c.in_ok-form.form } in
-    let is : o ≡ form_of schema operand = λ j. record { sign = operand.sign; property = c.restricted-property.ensures j; form = c.in_ok-form.ensures j } in
-    next_form schema c.args.operands.now i operand c.add.new.run o c.loop-operand-test.true c.operand-item.is is
-    (more_forms c.loop-operand.run c.add.new.run (map (form_of schema) (take i c.args.operands.now)) o c.loop-operand.invariant
-    c.in_ok-add.ensures.required c.in_ok-add.ensures.restrictions c.in_ok-add.ensures.subtracted)
-
-pub run_of-returns : goal.run_of-returns
-run_of-returns t c =
-    let schema = c.args.schema.now in
-    let operands = c.args.operands.now in
-    let i = c.loop-operand.operand-index in
-    c.in_ok-form-2.ensures
-    ∙ (whole_run c.loop-operand.run (map (form_of schema) (take i operands)) c.loop-operand.invariant
-    ∙ (ap (λ os. run_form raw_joins (map (form_of schema) os)) (take_all i operands c.loop-operand-test.false) ∙ sym (lowered_run schema operands)))
+    ∙ (sym (lowered_xrank c.args.schema.now c.args.joiner c.in-Xrank.matched c.in-Xrank.ranked c.in-Xrank.cb) ∙ ap here (sym c.in-Xrank.is)))

@@ -8,10 +8,10 @@ use Rattle.sq_lower.proofs.lowering.lower.Goals as goal
 
 pub returns-clause-formed : goal.returns-clause-formed
 returns-clause-formed c =
-    subst IsWellFormed (sym c.in_ok-raw.ensures) (lowered_formed c.args.schema.now c.args.tree.now c.len-rows.ensures.good c.requires.sound)
+    subst IsWellFormed (sym c.in_ok-raw.ensures) (lowered_formed c.args.schema.now c.args.joiner c.args.tree.now c.len-rows.ensures.good c.requires.sound)
 
 pub returns-clause-typed : goal.returns-clause-typed
 returns-clause-typed c =
     let schema = c.args.schema.now in
-    let given = lowered_typed c.names_find_rows.ensures c.numbers_read_back.ensures c.moments_read_back.ensures c.moments_are_written.ensures schema c.args.tree.now c.len-rows.ensures.good c.requires.sound.parts in
+    let given = lowered_typed c.names_find_rows.ensures c.numbers_read_back.ensures c.moments_read_back.ensures c.moments_are_written.ensures schema c.args.joiner c.args.tree.now c.len-rows.ensures.good c.requires.sound.parts in
     ap is_ok (ap (fql_typed schema) c.in_ok-raw.ensures ∙ given)

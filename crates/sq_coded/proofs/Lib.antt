@@ -1,0 +1,11 @@
+mod BlockLemmas
+mod CodedLemmas
+mod Examples
+mod FollowLemmas
+mod NumberLemmas
+mod OpenLemmas
+mod ReadLemmas
+mod SealLemmas
+mod SeekLemmas
+mod StartLemmas
+mod WriteLemmas
