@@ -15,57 +15,51 @@ fn row(alloc: Global, name: &str, kind: Kind, searchable: bool) -> Result<Proper
     })
 }
 
-fn rows_of(alloc: Global, count: u32) -> Result<Vec<Property>, AllocError> {
+fn schema_of(alloc: Global, count: u32) -> Result<Schema, SchemaFault> {
     let mut rows = Vec::new(alloc);
     for number in 0..count {
-        let name = format!(in alloc; "Size_{number}")?;
-        rows.push(row(alloc, &name, Kind::Integer, false)?)?;
+        let name = format!(in alloc; "Size_{number}").map_err(|_| SchemaFault::NoMemory)?;
+        let row = row(alloc, &name, Kind::Integer, false).map_err(|_| SchemaFault::NoMemory)?;
+        rows.push(row).map_err(|_| SchemaFault::NoMemory)?;
     }
-    Ok(rows)
+    Schema::new(alloc, rows)
 }
 
 #[test]
 fn a_schema_of_64_rows_finds_each_by_its_name(rt: HostRuntime) -> Result<(), Fail> {
     let alloc = rt.alloc();
-    let schema = Schema::new(alloc, rows_of(alloc, 64)?)?;
+    let schema = schema_of(alloc, 64)?;
     assert_eq!(rt; schema.len(), 64);
     assert_eq!(rt; schema.find("sIZE_0"), Some(0));
     assert_eq!(rt; schema.find("size_63"), Some(63));
     assert_eq!(rt; schema.find("size_64"), None);
     assert!(rt; schema.property(63).is_some());
     assert!(rt; schema.property(64).is_none());
-    let fault = Schema::new(alloc, rows_of(alloc, 65)?).err();
-    assert_eq!(rt; fault, Some(SchemaFault::TooMany));
+    assert_eq!(rt; schema_of(alloc, 65).err(), Some(SchemaFault::TooMany));
     Ok(())
 }
 
 /// A line for each name of the second of three rows, and the fault of the rows: the first row that is none, or
 /// that has an earlier name.
 const SECOND: &str = "\
-Draft|Some(BadRow(2))\n\
-title|Some(Repeated(1))\n\
-TITLE|Some(Repeated(1))\n\
-|Some(BadRow(1))\n\
-2nd|Some(BadRow(1))\n\
-a-b|Some(BadRow(1))";
-
-/// The fault of three rows, of which the second has this name.
-fn fault_of(alloc: Global, name: &str) -> Result<Option<SchemaFault>, AllocError> {
-    let mut rows = Vec::new(alloc);
-    rows.push(row(alloc, "Title", Kind::Text, true)?)?;
-    rows.push(row(alloc, name, Kind::YesNo, false)?)?;
-    rows.push(row(alloc, "TITLE", Kind::DateTime, true)?)?;
-    Ok(Schema::new(alloc, rows).err())
-}
+Draft|BadRow(2)\n\
+title|Repeated(1)\n\
+TITLE|Repeated(1)\n\
+|BadRow(1)\n\
+2nd|BadRow(1)\n\
+a-b|BadRow(1)";
 
 #[test]
-fn the_first_faulty_row_is_named(rt: HostRuntime) -> Result<(), AllocError> {
+fn the_first_faulty_row_is_named(rt: HostRuntime) -> Result<(), Fail> {
     let alloc = rt.alloc();
     for line in SECOND.split('\n') {
         let (name, want) = line.split_once('|').unwrap_or((line, ""));
-        let fault = fault_of(alloc, name)?;
-        let fault = format!(in alloc; "{fault:?}")?;
-        assert_eq!(rt; fault.as_str(), want, "at {line}");
+        let mut rows = Vec::new(alloc);
+        rows.push(row(alloc, "Title", Kind::Text, true)?)?;
+        rows.push(row(alloc, name, Kind::YesNo, false)?)?;
+        rows.push(row(alloc, "TITLE", Kind::DateTime, true)?)?;
+        let fault = Schema::new(alloc, rows).err().ok_or("a schema")?;
+        assert_eq!(rt; format!(in alloc; "{fault:?}")?.as_str(), want, "at {line}");
     }
     Ok(())
 }
