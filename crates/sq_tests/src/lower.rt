@@ -9,18 +9,19 @@ use sq_base::Fault;
 use sq_corpus::read_corpus;
 use sq_kql::read_kql;
 use sq_lower::lower;
-use sq_model::{Corpus, FTree, KTree};
+use sq_model::{Corpus, FTree, Joiner, KTree};
 use sq_schema::{Schema, clamped};
 use sq_slow::{fql_boost_slow, fql_holds_slow, kql_boost_slow, kql_holds_slow};
 use sq_typing::{type_fql, type_kql};
 use std::alloc::{AllocError, Global};
+use std::process::Abort;
 use std::test::Fail;
 
 /// 2024-02-29T12:00:00Z.
 const MOMENT: i64 = 1_709_208_000;
 
 /// KQL texts of every construct, one in each line, and behind some of them what they give the items: whether
-/// they hold, and the boost.
+/// they hold, and the boost, where all loose operands must hold.
 const FORMS: &str = "\
 debt\n\
 DEBT|false 0;true 0;true 0;\n\
@@ -174,12 +175,18 @@ size<8 -before|true 0;true 0;false 0;\n\
 write<>1970-01-01T00:00:00Z|true 0;true 0;true 0;\n\
 debt XRANK(cb=5) before OR memo|false 0;true 0;true 5;";
 
-fn kql_gives(alloc: Global, corpus: &Corpus, tree: &KTree, row: u32) -> Result<String, AllocError>
+fn kql_gives(
+    alloc: Global,
+    corpus: &Corpus,
+    tree: &KTree,
+    row: u32,
+    joiner: Joiner,
+) -> Result<String, AllocError>
     requires row { row < length corpus.now.items }
     requires short { list_all has_short_texts corpus.now.items ≡ true }
 {
-    let holds = kql_holds_slow(alloc, corpus, tree, row)?;
-    let boost = kql_boost_slow(alloc, corpus, tree, row)?;
+    let holds = kql_holds_slow(alloc, corpus, tree, row, joiner)?;
+    let boost = kql_boost_slow(alloc, corpus, tree, row, joiner)?;
     format!(in alloc; "{holds} {boost};")
 }
 
@@ -198,6 +205,7 @@ fn both_give(
     corpus: &Corpus,
     tree: &KTree,
     lowered: &FTree,
+    joiner: Joiner,
 ) -> Result<(String, String), AllocError>
     requires { list_all has_short_texts corpus.now.items ≡ true }
 {
@@ -205,7 +213,7 @@ fn both_give(
     let mut other = String::new(alloc);
     let count = u32::try_from(corpus.items.len()).unwrap_or(0);
     for row in 0..count {
-        let gives = kql_gives(alloc, corpus, tree, row)?;
+        let gives = kql_gives(alloc, corpus, tree, row, joiner)?;
         own.push_str(gives.as_str())?;
         let gives = fql_gives(alloc, corpus, lowered, row)?;
         other.push_str(gives.as_str())?;
@@ -220,33 +228,44 @@ fn typed(alloc: Global, schema: &Schema, text: &str) -> Result<KTree, Fault>
     type_kql(alloc, &raw, schema, clamped(MOMENT))
 }
 
-fn lowered(alloc: Global, schema: &Schema, tree: &KTree) -> Result<FTree, Fault>
+fn lowered(alloc: Global, schema: &Schema, tree: &KTree, joiner: Joiner) -> Result<FTree, Fault>
     requires { IsSound schema.now tree.now }
 {
-    let raw = lower(alloc, tree, schema)?;
+    let raw = lower(alloc, tree, schema, joiner)?;
     type_fql(alloc, &raw, schema)
 }
 
 /// The same of a text.
-fn given(alloc: Global, corpus: &Corpus, text: &str) -> Result<(String, String), Fault>
+fn given(
+    alloc: Global,
+    corpus: &Corpus,
+    text: &str,
+    joiner: Joiner,
+) -> Result<(String, String), Fault>
     requires { list_all has_short_texts corpus.now.items ≡ true }
 {
     let tree = typed(alloc, &corpus.schema, text)?;
-    let lowered = lowered(alloc, &corpus.schema, &tree)?;
-    Ok(both_give(alloc, corpus, &tree, &lowered)?)
+    let lowered = lowered(alloc, &corpus.schema, &tree, joiner)?;
+    Ok(both_give(alloc, corpus, &tree, &lowered, joiner)?)
+}
+
+/// Asserts of each form that both trees give the same.
+fn expect_alike(rt: &impl Abort, alloc: Global, joiner: Joiner) -> Result<(), Fail> {
+    let corpus = read_corpus(alloc, WORKED.as_bytes())?;
+    for row in FORMS.split('\n') {
+        let (text, want) = row.split_once('|').unwrap_or((row, ""));
+        let (own, other) = given(alloc, &corpus, text, joiner)?;
+        assert_eq!(rt; own.as_str(), other.as_str(), "at {row}");
+        let wanted = joiner == Joiner::All && want != "";
+        assert!(rt; !wanted || own.as_str() == want, "at {row}");
+    }
+    Ok(())
 }
 
 #[test]
 fn a_lowered_tree_holds_of_the_same_items_with_the_same_boosts(
     rt: HostRuntime,
 ) -> Result<(), Fail> {
-    let alloc = rt.alloc();
-    let corpus = read_corpus(alloc, WORKED.as_bytes())?;
-    for row in FORMS.split('\n') {
-        let (text, want) = row.split_once('|').unwrap_or((row, ""));
-        let (own, other) = given(alloc, &corpus, text)?;
-        assert_eq!(rt; own.as_str(), other.as_str(), "at {row}");
-        assert!(rt; want == "" || own.as_str() == want, "at {row}");
-    }
-    Ok(())
+    expect_alike(&rt, rt.alloc(), Joiner::All)?;
+    expect_alike(&rt, rt.alloc(), Joiner::Any)
 }
