@@ -69,14 +69,18 @@ module _ (n : ℕ) (ordered : Bool) (vs : List ℕ) (parts : List (List Triple))
   to_width h =
       let t : Triple = h.0 in
       let r = of_near n ordered parts t h.1 in
-      let total = weighs vs parts have r.chosen t r.is_choice r.joins in
-      (weightless t, to_near (n + sum vs) ordered (map (map weightless) parts) (weightless t) (record {
-        chosen = map weightless r.chosen;
-        is_choice = to_weightless r.chosen parts r.is_choice;
-        is_ordered = ordered_weightless ordered r.chosen ∙ r.is_ordered;
-        joins = joined_weightless r.chosen t r.joins;
-        is_close = sym (near_by_width n (sum vs) t total) ∙ r.is_close;
-      }), h.2, h.3)
+      let total = weighs vs parts have r.chosen t r.is_choice r.joins in (
+        weightless t,
+        to_near (n + sum vs) ordered (map (map weightless) parts) (weightless t) (record {
+          chosen = map weightless r.chosen;
+          is_choice = to_weightless r.chosen parts r.is_choice;
+          is_ordered = ordered_weightless ordered r.chosen ∙ r.is_ordered;
+          joins = joined_weightless r.chosen t r.joins;
+          is_close = sym (near_by_width n (sum vs) t total) ∙ r.is_close;
+        }),
+        h.2,
+        h.3,
+      )
 
   some_same : (s t : Triple) → Some s ≡ Some t → s ≡ t
   some_same s t e = cc
@@ -87,14 +91,18 @@ module _ (n : ℕ) (ordered : Bool) (vs : List ℕ) (parts : List (List Triple))
   of_choice light e f r (x ∷ xs) h same =
       let t : Triple = fold join x xs in
       let is : weightless t ≡ light = some_same (weightless t) light (sym (ap Some (fold_weightless x xs)) ∙ sym (ap (reduce join) same) ∙ r.joins) in
-      let total = weighs vs parts have (x ∷ xs) t h refl in
-      (t, to_near n ordered parts t (record {
-        chosen = x ∷ xs;
-        is_choice = h;
-        is_ordered = sym (ordered_weightless ordered (x ∷ xs)) ∙ ap (keeps_order ordered) (sym same) ∙ r.is_ordered;
-        joins = refl;
-        is_close = near_by_width n (sum vs) t total ∙ ap (is_near (n + sum vs)) is ∙ r.is_close;
-      }), ap (λ (u : Triple). u.first) is ∙ e, ap (λ (u : Triple). u.last) is ∙ f)
+      let total = weighs vs parts have (x ∷ xs) t h refl in (
+        t,
+        to_near n ordered parts t (record {
+          chosen = x ∷ xs;
+          is_choice = h;
+          is_ordered = sym (ordered_weightless ordered (x ∷ xs)) ∙ ap (keeps_order ordered) (sym same) ∙ r.is_ordered;
+          joins = refl;
+          is_close = near_by_width n (sum vs) t total ∙ ap (is_near (n + sum vs)) is ∙ r.is_close;
+        }),
+        ap (λ (u : Triple). u.first) is ∙ e,
+        ap (λ (u : Triple). u.last) is ∙ f,
+      )
 
   of_width : HasInterval (near (n + sum vs) ordered (map (map weightless) parts)) first last → HasInterval (near n ordered parts) first last
   of_width h =

@@ -54,7 +54,7 @@ of_least : (spans : List Span) (t : Span) → IsLeastSpan spans t → IsIn t (le
 of_least spans t h =
     let b = (base_least spans).below t h.here h.proper in
     let same : b.0 ≡ t = h.least b.0 ((base_least spans).some b.0 b.1) (proper_in b.0 (least_of spans) b.1 (ordered_least spans))
-        (passage_wrapped t b.0 b.2) (contains_of t b.0 b.2.first b.2.last) in
+    (passage_wrapped t b.0 b.2) (contains_of t b.0 b.2.first b.2.last) in
     subst (λ u. IsIn u (least_of spans)) same b.1
 
 -- ---- covers

@@ -150,4 +150,3 @@ pub(crate) fn span_of(found: Option<Cover>) -> Option<(u32, u32)>
         None => None,
     }
 }
-

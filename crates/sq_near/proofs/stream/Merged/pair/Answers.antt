@@ -11,7 +11,7 @@ returns-clause-left g c =
     let b = c.in-Some-pop_front.second in
     let after = c.pop_front-2.new.self.items in
     let parts : c.push-2.new.self.items ≡ a ∷ b ∷ [] =
-        c.in_ok-push-2.ensures.items ∙ ap (λ xs. xs ++ b ∷ []) (c.in_ok-push.ensures.items ∙ ap (λ xs. xs ++ a ∷ []) c.new-parts.ensures.items) in
+    c.in_ok-push-2.ensures.items ∙ ap (λ xs. xs ++ b ∷ []) (c.in_ok-push.ensures.items ∙ ap (λ xs. xs ++ a ∷ []) c.new-parts.ensures.items) in
     let before : c.args.streams.now.items ≡ a ∷ b ∷ after = c.in-Some.ensures.items ∙ ap (λ xs. a ∷ xs) c.in-Some-pop_front.ensures.items in
     paired_left left c.args.streams.now.items after c.push_back.new.self.items a b _ before c.in_ok-push_back.ensures.items
     (stream_left-merged g.C.SpanCursor.left c.over-both.result ∙ c.over-both.ensures.left ∙ ap (λ xs. merged_spans (map left xs)) parts)
@@ -23,7 +23,7 @@ returns-clause-cost g c =
     let b = c.in-Some-pop_front.second in
     let after = c.pop_front-2.new.self.items in
     let parts : c.push-2.new.self.items ≡ a ∷ b ∷ [] =
-        c.in_ok-push-2.ensures.items ∙ ap (λ xs. xs ++ b ∷ []) (c.in_ok-push.ensures.items ∙ ap (λ xs. xs ++ a ∷ []) c.new-parts.ensures.items) in
+    c.in_ok-push-2.ensures.items ∙ ap (λ xs. xs ++ b ∷ []) (c.in_ok-push.ensures.items ∙ ap (λ xs. xs ++ a ∷ []) c.new-parts.ensures.items) in
     let before : c.args.streams.now.items ≡ a ∷ b ∷ after = c.in-Some.ensures.items ∙ ap (λ xs. a ∷ xs) c.in-Some-pop_front.ensures.items in
     paired_cost rest c.args.streams.now.items after c.push_back.new.self.items c.push-2.new.self.items a b _ c.args.steps.now c.over-both.new.steps (merged_rest g.C.SpanCursor.rest c.over-both.result) before c.in_ok-push_back.ensures.items parts
     (stream_rest-merged g.C.SpanCursor.rest c.over-both.result) c.over-both.ensures.cost
