@@ -8,7 +8,7 @@ use sq_base::Fault;
 use sq_corpus::read_corpus;
 use sq_kql::read_kql;
 use sq_lower::lower;
-use sq_model::{Corpus, FTree, KTree};
+use sq_model::{Corpus, FTree, Joiner, KTree};
 use sq_schema::{Schema, clamped};
 use sq_slow::{fql_boost_slow, fql_holds_slow, kql_boost_slow, kql_holds_slow};
 use sq_typing::{type_fql, type_kql};
@@ -179,7 +179,7 @@ fn holds_alike(
     requires row { row < length corpus.now.items }
     requires short { list_all has_short_texts corpus.now.items ≡ true }
 {
-    let first = kql_holds_slow(alloc, corpus, tree, row)?;
+    let first = kql_holds_slow(alloc, corpus, tree, row, Joiner::All)?;
     let second = fql_holds_slow(alloc, corpus, lowered, row)?;
     Ok(first == second)
 }
@@ -195,7 +195,7 @@ fn boosts_alike(
     requires row { row < length corpus.now.items }
     requires short { list_all has_short_texts corpus.now.items ≡ true }
 {
-    let first = kql_boost_slow(alloc, corpus, tree, row)?;
+    let first = kql_boost_slow(alloc, corpus, tree, row, Joiner::All)?;
     let second = fql_boost_slow(alloc, corpus, lowered, row)?;
     Ok(first == second)
 }
@@ -232,7 +232,7 @@ fn typed(alloc: Global, schema: &Schema, text: &str) -> Result<KTree, Fault>
 fn lowered(alloc: Global, schema: &Schema, tree: &KTree) -> Result<FTree, Fault>
     requires { IsSound schema.now tree.now }
 {
-    let raw = lower(alloc, tree, schema)?;
+    let raw = lower(alloc, tree, schema, Joiner::All)?;
     type_fql(alloc, &raw, schema)
 }
 

@@ -6,7 +6,7 @@ use sq_base::Fault;
 use sq_corpus::read_corpus;
 use sq_fql::read_fql;
 use sq_kql::read_kql;
-use sq_model::{Corpus, FTree, KTree, admits};
+use sq_model::{Corpus, FTree, Joiner, KTree, admits};
 use sq_schema::{Schema, clamped};
 use sq_slow::{fql_boost_slow, fql_holds_slow, kql_boost_slow, kql_holds_slow};
 use sq_typing::{type_fql, type_kql};
@@ -71,7 +71,7 @@ fn holds(alloc: Global, corpus: &Corpus, query: &Query, row: u32) -> Result<bool
     requires short { list_all has_short_texts corpus.now.items ≡ true }
 {
     match query {
-        Query::Kql(tree) => kql_holds_slow(alloc, corpus, tree, row),
+        Query::Kql(tree) => kql_holds_slow(alloc, corpus, tree, row, Joiner::All),
         Query::Fql(tree) => fql_holds_slow(alloc, corpus, tree, row),
     }
 }
@@ -81,7 +81,7 @@ fn boost(alloc: Global, corpus: &Corpus, query: &Query, row: u32) -> Result<i64,
     requires short { list_all has_short_texts corpus.now.items ≡ true }
 {
     match query {
-        Query::Kql(tree) => kql_boost_slow(alloc, corpus, tree, row),
+        Query::Kql(tree) => kql_boost_slow(alloc, corpus, tree, row, Joiner::All),
         Query::Fql(tree) => fql_boost_slow(alloc, corpus, tree, row),
     }
 }
