@@ -2,6 +2,7 @@
 use Rattle.std.proofs.Common.{◌≡◌, List, Ok, refl}
 use Rattle.sq_schema.specs.declared.property.Property.{Property}
 use Rattle.sq_schema.specs.Properties.{IsSchema}
+use Rattle.sq_model.specs.declared.kql.Joiner.TheVariants as joiner
 use Rattle.sq_model.specs.declared.kql.KTree.{KTree}
 use Rattle.sq_model.specs.declared.fql.FTree.{FTree}
 use Rattle.sq_model.specs.KqlSound.{IsSound}
@@ -17,8 +18,8 @@ means_itself schema tree = record {
 }
 
 pub means_kql : LoweringKeepsMeaning → (schema : List Property) (k : KTree) (t : FTree) → IsSchema schema → IsSound schema k
-    → fql_typed schema (lowered schema k) ≡ Ok t → Means schema (Kql k) t
+    → fql_typed schema (lowered schema joiner.All k) ≡ Ok t → Means schema (Kql k) t
 means_kql law schema k t good sound typed = record {
-  same_hits = λ values fit. (law schema k t values good sound typed fit).holds;
-  same_boost = λ values fit. (law schema k t values good sound typed fit).boost;
+  same_hits = λ values fit. (law schema joiner.All k t values good sound typed fit).holds;
+  same_boost = λ values fit. (law schema joiner.All k t values good sound typed fit).boost;
 }

@@ -5,6 +5,7 @@ use Rattle.sq_base.specs.declared.faults.Fault.{Fault}
 use Rattle.sq_base.specs.declared.faults.Fault.TheVariants as fault
 use Rattle.sq_schema.specs.declared.property.Property.{Property}
 use Rattle.sq_model.specs.declared.corpus.Value.{Value}
+use Rattle.sq_model.specs.declared.kql.Joiner.TheVariants as joiner
 use Rattle.sq_model.specs.declared.kql.KTree.{KTree}
 use Rattle.sq_model.specs.declared.fql.FTree.{FTree}
 use Rattle.sq_model.specs.Kql as kql
@@ -35,17 +36,17 @@ query_of schema moment language.Fql text = fql_tree.read_of text >>= fql_typed s
 
 -- whether the query holds of an item with these values
 abbrev pub holds : List Property → List Value → Query → Bool
-holds schema values (Kql tree) = kql.holds schema values tree
+holds schema values (Kql tree) = kql.holds schema values joiner.All tree
 holds schema values (Fql tree) = fql.holds schema values tree
 
 -- and the boost that it gives
 abbrev pub boost : List Property → List Value → Query → ℤ
-boost schema values (Kql tree) = kql.boost schema values tree
+boost schema values (Kql tree) = kql.boost schema values joiner.All tree
 boost schema values (Fql tree) = fql.boost schema values tree
 
 -- The canonical FQL text that says what a KQL text says, or the text's first fault: of reading, and else of typing.
 unfoldable pub lowered_of : List Property → ℤ → List ℕ → Outcome (List ℕ)
-lowered_of schema moment text = kql_tree.read_of text >>= typed schema moment >>= (λ tree. Ok (canon (lowered schema tree)))
+lowered_of schema moment text = kql_tree.read_of text >>= typed schema moment >>= (λ tree. Ok (canon (lowered schema joiner.All tree)))
 
 -- The tree means what the query means: of each item with values of the schema.
 pub record Means (schema : List Property) (query : Query) (tree : FTree) : Type 0 where

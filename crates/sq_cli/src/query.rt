@@ -11,7 +11,7 @@ use sq_base::{Fault, Text};
 use sq_fql::{print_fql, read_fql};
 use sq_kql::read_kql;
 use sq_lower::{lower, lowering_keeps_meaning};
-use sq_model::{FTree, KTree};
+use sq_model::{FTree, Joiner, KTree};
 use sq_schema::Schema;
 use sq_typing::{type_fql, type_kql};
 use std::alloc::Global;
@@ -45,7 +45,7 @@ fn kql_query(alloc: Global, schema: &Schema, text: &str, now: i64) -> Result<FTr
         Err(Fault::Query(fault)) => return Err(Fault::Query(fault)),
         Err(Fault::NoMemory) => return Err(Fault::NoMemory),
     };
-    let Ok(raw) = lower(alloc, &tree, schema) else {
+    let Ok(raw) = lower(alloc, &tree, schema, Joiner::All) else {
         return Err(Fault::NoMemory);
     };
     schema.len();
@@ -102,7 +102,7 @@ pub fn lowered_text(alloc: Global, schema: &Schema, text: &str, now: i64) -> Res
         Err(Fault::Query(fault)) => return Err(Fault::Query(fault)),
         Err(Fault::NoMemory) => return Err(Fault::NoMemory),
     };
-    let Ok(raw) = lower(alloc, &tree, schema) else {
+    let Ok(raw) = lower(alloc, &tree, schema, Joiner::All) else {
         return Err(Fault::NoMemory);
     };
     match print_fql(alloc, &raw) {

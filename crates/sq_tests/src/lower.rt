@@ -5,8 +5,9 @@ ghost use Rattle.sq_model.specs.KqlSound.{IsSound};
 ghost use Rattle.sq_model.specs.Valid.{has_short_texts};
 
 use crate::corpus::WORKED;
-use sq_base::Fault;
+use sq_base::{Fault, Text};
 use sq_corpus::read_corpus;
+use sq_fql::print_fql;
 use sq_kql::read_kql;
 use sq_lower::lower;
 use sq_model::{Corpus, FTree, Joiner, KTree};
@@ -23,6 +24,64 @@ const MOMENT: i64 = 1_709_208_000;
 /// KQL texts of every construct, one in each line, and behind some of them what they give the items: whether
 /// they hold, and the boost, where all loose operands must hold.
 const FORMS: &str = "\
+notes debt memo\n\
+debt debt\n\
+debt nothing\n\
+nothing nowhere\n\
+* debt\n\
+debt *\n\
+* nothing\n\
+nothing title:debt *\n\
+notes title:debt memo\n\
+title:debt notes memo\n\
+title:debt notes title:board memo\n\
+title:debt nothing title:board\n\
+notes +debt\n\
++debt notes memo\n\
++notes +memo\n\
++notes debt memo +company\n\
+notes -debt\n\
+notes memo -debt\n\
+-debt notes -memo board\n\
+-debt -memo\n\
+notes (debt memo)\n\
+(notes debt) memo\n\
+(notes memo) (debt board)\n\
+(notes) memo\n\
+notes (title:debt) memo\n\
+WORDS(notes, memo) debt\n\
+debt WORDS(nothing, board) -notes\n\
++WORDS(notes, board) debt memo\n\
+notes acquisition ONEAR(n=2) debt\n\
+merger NEAR(n=2) bank notes\n\
+notes merger NEAR(n=2) (old OR bank) memo\n\
+-merger NEAR bank notes debt\n\
+title=\"debt notes\" notes memo\n\
+title<>debt notes memo\n\
+title=debt title:board notes\n\
+size:5 notes memo\n\
+size>5 notes memo\n\
+size:5..7 debt size=9 notes\n\
+size<>5 -notes debt\n\
+write:2024-02-29 debt notes\n\
+write<2024-02-29 debt notes\n\
+public:yes debt memo\n\
+debt notes OR memo board\n\
+debt notes AND memo board\n\
+debt AND notes memo OR nothing\n\
+(debt notes) AND (memo board)\n\
+debt notes XRANK(cb=5) memo board\n\
+(debt XRANK(cb=5) notes) memo\n\
+(debt XRANK(cb=5) notes board) (memo XRANK(cb=7) debt notes)\n\
+debt notes XRANK(cb=-5) (board memo)\n\
+* notes XRANK(cb=3) debt -memo\n\
+notes (debt XRANK(cb=5) notes memo) memo\n\
++(notes debt XRANK(cb=2) memo) board nothing\n\
+\"company debt\" \"old bank\" acqui*\n\
+acqui* \"notes acquisition\" -nothing\n\
+author:ann notes author:bob memo filetype:docx\n\
+(merger takeover) author:\"ann smith\" filetype:docx size>=5 -draft\n\
+notes size<>5 memo title:debt -(board nothing)\n\
 debt\n\
 DEBT|false 0;true 0;true 0;\n\
 \"company debt\"\n\
@@ -268,4 +327,23 @@ fn a_lowered_tree_holds_of_the_same_items_with_the_same_boosts(
 ) -> Result<(), Fail> {
     expect_alike(&rt, rt.alloc(), Joiner::All)?;
     expect_alike(&rt, rt.alloc(), Joiner::Any)
+}
+
+/// The canonical text of what a KQL text is lowered to where one loose operand is enough.
+fn canonical(alloc: Global, corpus: &Corpus, text: &str) -> Result<Text, Fault> {
+    let tree = typed(alloc, &corpus.schema, text)?;
+    let raw = lower(alloc, &tree, &corpus.schema, Joiner::Any)?;
+    Ok(print_fql(alloc, &raw)?)
+}
+
+#[test]
+fn loose_operands_stand_as_one_in_the_place_of_the_first(rt: HostRuntime) -> Result<(), Fail> {
+    let alloc = rt.alloc();
+    let corpus = read_corpus(alloc, WORKED.as_bytes())?;
+    let text = canonical(alloc, &corpus, "notes title:debt memo")?;
+    assert_eq!(rt;
+        text.as_str(),
+        "and(or(string(\"notes\"),string(\"memo\")),title:string(\"debt\"))"
+    );
+    Ok(())
 }

@@ -1,4 +1,4 @@
-use Rattle.std.proofs.Common.{◌≡◌, ◌∷◌, [], map, take, subst, ap, ap₂, sym, ◌∙◌, arith}
+use Rattle.std.proofs.Common.{◌≡◌, ◌∷◌, ◌++◌, [], map, take, subst, ap, ap₂, sym, ◌∙◌, arith}
 use Rattle.std.specs.Int.{w64, cast_signed, cast_unsigned}
 use Rattle.std.specs.List.{All}
 use Rattle.std.proofs.lemmas.Int.{ints, to_z-of_z}
@@ -8,13 +8,14 @@ use Rattle.sq_fql.specs.declared.raw.Op.TheVariants as op
 use Rattle.sq_model.specs.KqlSound.{PartsSound}
 use Rattle.sq_model.specs.declared.kql.KOperand.{KOperand}
 use Rattle.sq_model.specs.declared.kql.KTree.TheVariants as tree
-use Rattle.sq_lower.specs.Runs.{Form, run_form}
-use Rattle.sq_lower.specs.Lowered.{apply, near, lowered, raw_connectives}
-use Rattle.sq_lower.proofs.SeenRuns.{more_forms, next_form, whole_run}
+use Rattle.sq_lower.specs.Runs.{Form, alone_or, forms_of, gathers, is_gathered, in_one_place, gathered_form}
+use Rattle.sq_lower.specs.Lowered.{apply, near, lowered, operand_form, raw_connectives}
+use Rattle.sq_lower.proofs.SeenRuns.{HasForms, HasPlaced, more_forms, first_more, again_more, other_more, next_form, whole_run}
 use Rattle.sq_lower.proofs.SoundParts.{sound_group, sound_left, sound_right, sound_matched, sound_ranked, sound_and, sound_or, sound_run}
 use Rattle.sq_lower.proofs.TreeEquations.{lowered_near, lowered_run, lowered_xrank}
 use Rattle.sq_lower.proofs.TreeNodes.{nodes_group, nodes_left, nodes_right, nodes_matched, nodes_ranked, nodes_and, nodes_or, nodes_run, at_most_all, at_most_all_operands, below, below_tree, run_below, below_list, below_run}
 use Rattle.sq_lower.proofs.lowering.+lowered.Goals as goal
+use Rattle.sq_lower.proofs.lowering.+lowered.Goals.{run_of-then-gathers+in-Some+in_ok-add, run_of-then-gathers+in_default, run_of-else-gathers+in_ok-form+in_ok-add-2}
 
 pub tree_of-tree_of-requires : goal.tree_of-tree_of-requires
 tree_of-tree_of-requires t c = (
@@ -109,3 +110,55 @@ tree_of-returns-in_ok-operands-in-Xrank t c =
     ∙ (ap₂ (λ o l. apply o l) (ap op.Xrank read) (c.in_ok-operands-in-Xrank.ensures
     ∙ ap₂ (λ m r. m ∷ r ∷ []) (c.in_ok-matched-in-Xrank.ensures ∙ ap here c.get-in-Xrank.ensures) (c.in_ok-ranked-in-Xrank.ensures ∙ ap here c.get-in-Xrank-2.ensures))
     ∙ (sym (lowered_xrank c.args.schema.now c.args.joiner c.in-Xrank.matched c.in-Xrank.ranked c.in-Xrank.cb) ∙ ap here (sym c.in-Xrank.is)))
+
+pub run_of-loop-operand-preserved : goal.run_of-loop-operand-preserved
+run_of-loop-operand-preserved t c =
+    let schema = c.args.schema.now in
+    let joiner = c.args.joiner in
+    let operand = c.operand-item.result in
+    let operands = c.args.operands.now in
+    let forms = map (operand_form schema joiner) (take c.loop-operand.operand-index operands) in
+    let one = alone_or (apply op.Or) (forms_of (is_gathered joiner) (map (operand_form schema joiner) operands)) in
+    let o = operand_form schema joiner operand in
+    let before = c.loop-operand.invariant in
+    let placed = in_one_place (is_gathered joiner) one forms in
+    let next = next_form schema joiner operands c.loop-operand.operand-index operand c.loop-operand-test.true c.operand-item.is in
+    let role = c.role_of-role.ensures in
+    let test : gathers joiner o.role ≡ c.gathers.result = sym (c.gathers.ensures ∙ ap (gathers joiner) role) in
+    subst (HasPlaced joiner one c.if-gathers.run c.if-gathers.gathered) (sym next)
+    (elim c.if-gathers.branch as (λ _. HasPlaced joiner one c.if-gathers.run c.if-gathers.gathered (forms ++ o ∷ [])) [
+      | run_of-then-gathers+in-Some+in_ok-add w ↦
+          let made : Form FRaw = record { sign = operand.sign; role = c.role_of-role.result; form = w.in-Some.form } in
+          let is : made ≡ record o { form = w.in-Some.form } = λ j. record { sign = operand.sign; role = role j; form = w.in-Some.form } in
+          first_more joiner one c.loop-operand.run c.loop-operand.gathered forms o before c.if-gathers.run c.if-gathers.gathered w.in-Some.form (test ∙ w.if-gathers.true)
+          (sym w.take.ensures.value ∙ w.in-Some.is) (w.gathered-is ∙ w.take.ensures.after)
+          (subst (λ r. HasForms r (placed ++ record o { form = w.in-Some.form } ∷ [])) (sym w.run-is)
+          (subst (λ x. HasForms w.add.new.run (placed ++ x ∷ [])) is
+          (more_forms c.loop-operand.run w.add.new.run placed made before.seen w.in_ok-add.ensures.required w.in_ok-add.ensures.restrictions w.in_ok-add.ensures.subtracted)))
+      | run_of-then-gathers+in_default w ↦
+          subst (λ r. HasPlaced joiner one r c.if-gathers.gathered (forms ++ o ∷ [])) (sym w.run-is)
+          (again_more joiner one c.loop-operand.run c.loop-operand.gathered forms o before c.if-gathers.gathered (test ∙ w.if-gathers.true)
+          (sym w.take.ensures.value ∙ w.in_default.is) (w.gathered-is ∙ w.take.ensures.after))
+      | run_of-else-gathers+in_ok-form+in_ok-add-2 w ↦
+          let made : Form FRaw = record { sign = operand.sign; role = c.role_of-role.result; form = w.in_ok-form.form } in
+          let is : made ≡ o = λ j. record { sign = operand.sign; role = role j; form = w.in_ok-form.ensures j } in
+          subst (λ g. HasPlaced joiner one c.if-gathers.run g (forms ++ o ∷ [])) (sym w.gathered-is)
+          (other_more joiner one c.loop-operand.run c.loop-operand.gathered forms o before c.if-gathers.run (test ∙ w.if-gathers.false)
+          (subst (λ r. HasForms r (placed ++ o ∷ [])) (sym w.run-is)
+          (subst (λ x. HasForms w.add-else-gathers.new.run (placed ++ x ∷ [])) is
+          (more_forms c.loop-operand.run w.add-else-gathers.new.run placed made before.seen
+          w.in_ok-add-2.ensures.required w.in_ok-add-2.ensures.restrictions w.in_ok-add-2.ensures.subtracted))))
+    ])
+
+pub run_of-returns : goal.run_of-returns
+run_of-returns t c =
+    let schema = c.args.schema.now in
+    let joiner = c.args.joiner in
+    let operands = c.args.operands.now in
+    let i = c.loop-operand.operand-index in
+    let form = operand_form schema joiner in
+    let one = alone_or (apply op.Or) (forms_of (is_gathered joiner) (map form operands)) in
+    c.in_ok-form-2.ensures
+    ∙ (whole_run c.loop-operand.run (in_one_place (is_gathered joiner) one (map form (take i operands))) c.loop-operand.invariant.seen
+    ∙ (ap (λ os. gathered_form raw_connectives (in_one_place (is_gathered joiner) one (map form os))) (take_all i operands c.loop-operand-test.false)
+    ∙ sym (lowered_run schema joiner operands)))
