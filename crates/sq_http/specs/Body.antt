@@ -9,6 +9,7 @@ abbrev pub request_seen : declared.Request → Request
 request_seen (request.Refused status closes) = Refused status closes
 request_seen (request.Asks caller) = Asks caller.now
 
+-- the interim text, if it is to go out
 abbrev pub interim_if : Bool → List Owed
 interim_if interim = if interim then Interim ∷ [] else []
 

@@ -1,4 +1,4 @@
--- One request of a connection.
+-- One request of a connection, from the first read for it to its last reply. Only contracts inside this crate speak of it.
 use Rattle.std.specs.Prelude.{◌≡◌, ℕ, ◌+◌, ◌-◌, ◌<◌, ◌≤◌, ◌⊎◌, Bool, true, false, not, List, [], ◌∷◌, ◌++◌, length, Option, IfSome, Some, Result, Ok, Err}
 use Rattle.std.specs.Io.KnownBytes.{Appends, Consumes, IsAtEnd}
 use Rattle.sq_base.specs.Bytes.{AppendsPrefix}
@@ -10,6 +10,7 @@ use Rattle.sq_http.specs.Owed.{Owed, Step, Open, Closed, Goes, closes, step}
 use Rattle.sq_http.specs.Replies.{Answering, texts}
 use Rattle.sq_http.specs.Served.{GivesUpIn, HasFault}
 
+-- what a step owes
 abbrev pub owed_of : Step → List Owed
 owed_of (Open owed) = owed
 owed_of (Closed owed) = owed
@@ -24,6 +25,7 @@ Leads step held left (Err ReadFault) = (owed : List Owed) × (step ≡ Open owed
 Leads step held left (Err WriteFault) = Unit {0}
 Leads step held left (Err NoMemory) = Unit {0}
 
+-- what was sent of what is owed, by how the request ended
 abbrev pub SendsOf : Answering → List Owed → Option (List ℕ) → Option (List ℕ) → Result Bool Ended → Type 0
 SendsOf answering owed before after (Ok goes) = Appends before after (texts answering owed)
 SendsOf answering owed before after (Err Finished) = Appends before after (texts answering owed)
@@ -47,14 +49,17 @@ pub record AskedOpen (answering : Answering) (f : List ℕ → Step) (got : List
   pub later : List Owed
   pub goes_on : owed_of (f got) ≡ opening ++ later
 
+-- the note of the latest read, where the wire tells its bytes
 abbrev pub AskedIn : Answering → (List ℕ → Step) → List ℕ → Option (List ℕ) → Option (List ℕ) → Option (ℕ × ℕ) → Option (ℕ × ℕ) → Type 0
 AskedIn answering f got left sent before after =
     IfSome left (λ bytes. IfSome sent (λ gone. ((got ≡ []) × (after ≡ before)) ⊎ AskedOpen answering f got (length bytes) (length gone) after))
 
+-- a fault is answered only where its count rose
 abbrev pub FaultOf : ℕ → ℕ → ℕ → ℕ → Result Bool Ended → Type 0
 FaultOf reads_before reads_after writes_before writes_after (Ok goes) = Unit {0}
 FaultOf reads_before reads_after writes_before writes_after (Err ended) = HasFault reads_before reads_after writes_before writes_after ended
 
+-- these bytes were taken, what their step owes was sent, and the step leads to the answer and to what is held now
 pub record ExchangeBy {W : Type 0} (wire : Ghosts W) (answering : Answering) (f : List ℕ → Step) (held_new : List ℕ) (old new : W) (result : Result Bool Ended) : Type 0 where
   pub got : List ℕ
   pub consumed : Consumes (wire.left old) (wire.left new) got

@@ -8,6 +8,7 @@ use Rattle.sq_http.specs.Owed.{is_word}
 abbrev pub values_in : List ℕ → List (List ℕ × List ℕ) → List (List ℕ)
 values_in name fields = map (λ field. field.1) (filter (λ field. is_word name field.0) fields)
 
+-- the same, of the fields that headers cover
 abbrev pub values_at : List ℕ → List ℕ → List HeaderSpan → List (List ℕ)
 values_at name head headers = values_in name (map (header_bytes head) headers)
 

@@ -8,6 +8,7 @@ use Rattle.sq_http.specs.declared.buffer.Buffer.{Buffer}
 abbrev pub held : Buffer → List ℕ
 held buffer = buffer.bytes.items
 
+-- the room of a buffer
 abbrev pub room : Buffer → ℕ
 room buffer = buffer.size
 
@@ -29,6 +30,7 @@ pub record Latest (IsOpen : List ℕ → Type 0) (to_come gone : ℕ) (asked : O
   pub opened : IsOpen first
   pub noted : asked ≡ Some (to_come - length first, gone)
 
+-- the note of the latest read, where the wire tells its bytes
 abbrev pub Asked : (List ℕ → Type 0) → Option (List ℕ) → Option (List ℕ) → Option (ℕ × ℕ) → Option (ℕ × ℕ) → List ℕ → Type 0
 Asked IsOpen left sent before after got =
     IfSome left (λ bytes. IfSome sent (λ gone. ((got ≡ []) × (after ≡ before)) ⊎ Latest IsOpen (length bytes) (length gone) after got))

@@ -7,6 +7,7 @@ use Rattle.sq_http.specs.Body.{request_seen}
 use Rattle.sq_http.specs.Owed.{Job}
 use Rattle.sq_http.specs.declared.judge.Job as declared
 
+-- a judgement as the definitions have it
 abbrev pub judged_seen : Result declared.Job ℕ → Result Job ℕ
 judged_seen (Ok job) = Ok (record { length = job.size; interim = job.interim; last = job.last; request = request_seen job.request })
 judged_seen (Err status) = Err status

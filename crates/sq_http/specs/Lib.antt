@@ -1,3 +1,4 @@
+-- What is public: `Cut`, `Owed`, `Replies`, `Served`, `Handles` and `Alike`. The others are of the calls inside.
 pub mod Alike
 pub mod Body
 pub mod Cut

@@ -1,4 +1,4 @@
--- The texts of what is owed.
+-- The texts of what is owed (RFC 9112, sections 4 and 6).
 use Rattle.std.specs.Prelude.{ℕ, Bool, true, ◌==◌, if◌then◌else◌, List, [], ◌++◌, flat_map, length, Option, Some, None, decimal, codes}
 use Rattle.std.specs.Option.{unwrap_or}
 use Rattle.http.specs.StatusCode.{code_digits, reason_phrase}
@@ -18,15 +18,18 @@ reply_text status closing body =
     ++ ((if closing then codes "Connection: close\r\n" else [])
     ++ (codes "\r\n" ++ body)))))))))))
 
+-- the reply to a caller and a body, by what the handler answers: nothing is 403
 abbrev pub answer_text : Bool → Option (List ℕ) → List ℕ
 answer_text closing None = reply_text 403 closing []
 answer_text closing (Some body) = reply_text 200 closing body
 
+-- the text of one that is owed
 abbrev pub text_of : Answering → Owed → List ℕ
 text_of answering Interim = codes "HTTP/1.1 100 Continue\r\n\r\n"
 text_of answering (Refusal status closing) = reply_text status closing []
 text_of answering (Asking caller body closing) = answer_text closing (answering caller body)
 
+-- the texts of all, joined
 abbrev pub texts : Answering → List Owed → List ℕ
 texts answering owed = flat_map (text_of answering) owed
 

@@ -25,6 +25,7 @@ module _ (answering : Answering) where
   abbrev pub GivesUp : List ℕ → List ℕ → Type 0
   GivesUp taken text = ((taken ≡ []) × (text ≡ no_memory_text)) ⊎ GivesUpIn (owed taken) text
 
+  -- what was sent, by how the connection ended
   abbrev pub Sent : List ℕ → Ended → Option (List ℕ) → Option (List ℕ) → Type 0
   Sent taken Finished before after = Appends before after (texts answering (owed taken))
   Sent taken ReadFault before after = Appends before after (texts answering (owed taken))
@@ -35,24 +36,28 @@ module _ (answering : Answering) where
   abbrev pub IsPrompt : List ℕ → List ℕ → List ℕ → ℕ × ℕ → Type 0
   IsPrompt bytes before now asked = take asked.1 now ≡ before ++ texts answering (owed (take (length bytes - asked.0) bytes))
 
+  -- the same, where a byte was taken and the wire tells its bytes
   abbrev pub Prompt : List ℕ → Option (List ℕ) → Option (List ℕ) → Option (List ℕ) → Option (ℕ × ℕ) → Type 0
   Prompt taken left sent now asked = 0 < length taken → IfSome left (λ bytes. IfSome sent (λ before. IfSome now (λ gone. IsSomeAnd asked (IsPrompt bytes before gone))))
 
+-- after `Finished` the input has ended, or the last text closes
 abbrev pub Ends : List ℕ → Option (List ℕ) → Ended → Type 0
 Ends taken left Finished = IsAtEnd left ⊎ (ends_closed (owed taken) ≡ true)
 Ends taken left ended = Unit {0}
 
+-- nothing was read before what was owed was sent
 abbrev pub WasPrompt : Answering → List ℕ → Option (List ℕ) → Option (List ℕ) → Option (List ℕ) → Option (ℕ × ℕ) → Ended → Type 0
 WasPrompt answering taken left sent now asked Finished = Prompt answering taken left sent now asked
 WasPrompt answering taken left sent now asked ReadFault = Prompt answering taken left sent now asked
 WasPrompt answering taken left sent now asked ended = Unit {0}
 
+-- a fault is answered only where that count of the wire rose
 abbrev pub HasFault : ℕ → ℕ → ℕ → ℕ → Ended → Type 0
 HasFault reads_before reads_after writes_before writes_after ReadFault = Rose reads_before reads_after
 HasFault reads_before reads_after writes_before writes_after WriteFault = Rose writes_before writes_after
 HasFault reads_before reads_after writes_before writes_after ended = Unit {0}
 
--- the whole contract of a connection
+-- The whole contract of a connection: the bytes it took, what it sent for them by how it ended, and when it read.
 pub record Serves {W : Type 0} (wire : Ghosts W) (answering : Answering) (old new : W) (ended : Ended) : Type 0 where
   pub taken : List ℕ
   pub consumed : Consumes (wire.left old) (wire.left new) taken
