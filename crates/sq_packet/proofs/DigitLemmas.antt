@@ -38,8 +38,8 @@ in_class class.Name c known h = absurd known
 in_class class.AttributeName c known h = absurd known
 
 digits_by : (of : Class) (m : Mark) (ms : List Mark) (b : Bool) → is_in of m.c ≡ b → IsDigits of → AllDigits (base_of of) (run of ms).0 → AllDigits (base_of of) (run of (m ∷ ms)).0
-digits_by of m ms true yes known more = let digit = in_class of m.c known yes in rw (yes, encode_ascii m.c digit.0) (digit.1, more)
-digits_by of m ms false no known more = rw no tt
+digits_by of m ms true is known more = let digit = in_class of m.c known is in rw (is, encode_ascii m.c digit.0) (digit.1, more)
+digits_by of m ms false is known more = rw is tt
 
 run_digits : (of : Class) (ms : List Mark) → IsDigits of → AllDigits (base_of of) (run of ms).0
 run_digits of [] known = tt

@@ -27,7 +27,7 @@ pub packet_bad : (bytes : List ℕ) → (IsUtf8 bytes → ⊥) → packet_of byt
 unfolding packet_of
 packet_bad bytes bad =
     ap (λ (b : Bool). if b then packet_from (length bytes) (marks_from 0 (chars bytes)) else refused 501 (utf8_valid_len bytes))
-    (false_from_ne_true (λ yes. bad (IsUtf8-from_is_utf8 bytes yes)))
+    (false_from_ne_true (is_utf8 bytes) (λ yes. bad (IsUtf8-from_is_utf8 bytes yes)))
 
 pub packet_good : (bytes : List ℕ) → IsUtf8 bytes → packet_of bytes ≡ packet_from (length bytes) (marks_from 0 (chars bytes))
 unfolding packet_of
