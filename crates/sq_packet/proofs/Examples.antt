@@ -10,9 +10,10 @@ use Rattle.sq_packet.specs.declared.request.Language.TheVariants as language
 use Rattle.sq_packet.specs.declared.request.Direction.TheVariants as direction
 use Rattle.sq_packet.specs.declared.request.Request.{Request}
 use Rattle.sq_base.specs.Outcome.{Outcome, refused}
-use Rattle.sq_packet.specs.Texts.{reference, character, text_until}
-use Rattle.sq_packet.specs.Packet.{packet_of, read_on, turn, end_tag, start_tag, begun, attributes, attribute_at, with_attribute, ended, no_request}
-use Rattle.sq_packet.specs.Refiners.{refiner_of}
+use Rattle.sq_packet.specs.Texts.{reference, character, text_until, next_character}
+use Rattle.sq_packet.specs.Packet.{packet_of, read_on, turn, end_tag, start_tag, begun, attributes, attribute_at, next_attribute, with_attribute, ended, no_request}
+use Rattle.sq_packet.specs.Refiners.{refiner_of, is_manual}
+use Rattle.sq_packet.specs.Elements.{is_named}
 use Rattle.sq_schema.specs.Values as values
 
 abbrev fault_of : Outcome Request → ℕ × ℕ
@@ -34,7 +35,7 @@ whole : map fault_of (packet_of (query text) ∷ packet_of (query (codes "<Conte
     ∷ packet_of (query (text ++ codes "<Foo!")) ∷ packet_of (query (text ++ codes "<Foo>")) ∷ packet_of (query (text ++ text)) ∷ packet_of (query (text ++ codes "<Foo"))
     ∷ packet_of (query text ++ codes " <!-- - --> ") ∷ packet_of (query text ++ codes " <x/>") ∷ packet_of (query text ++ codes "x") ∷ [])
     ≡ (0, 0) ∷ (505, 55) ∷ (508, 55) ∷ (507, 81) ∷ (510, 118) ∷ (502, 102) ∷ (503, 98) ∷ (504, 98) ∷ (502, 102) ∷ (0, 0) ∷ (502, 122) ∷ (502, 120) ∷ []
-unfolding packet_of read_on turn end_tag start_tag begun attributes attribute_at with_attribute ended refiner_of reference character text_until is_utf8 chars is_xml_char encode values.number_of values.is_numeral values.behind_minus
+unfolding packet_of read_on turn end_tag start_tag begun attributes attribute_at with_attribute ended refiner_of is_manual is_named reference character text_until next_character next_attribute is_utf8 chars is_xml_char encode values.number_of values.is_numeral values.behind_minus
 whole = refl
 
 tags : map fault_of (packet_of (codes "<QueryPacket xmlns='urn:x'/>") ∷ packet_of (codes "<QueryPacket xmlns='urn:x'>") ∷ packet_of (codes "<QueryPacket>") ∷ packet_of (codes "")
@@ -46,7 +47,7 @@ tags : map fault_of (packet_of (codes "<QueryPacket xmlns='urn:x'/>") ∷ packet
     ∷ (502, 2) ∷ (502, 14) ∷ (502, 14)
     ∷ (502, 120) ∷ (502, 129) ∷ (505, 55)
     ∷ (502, 98) ∷ (502, 108) ∷ (504, 108) ∷ []
-unfolding packet_of read_on turn end_tag start_tag begun attributes attribute_at with_attribute ended refiner_of reference character text_until is_utf8 chars is_xml_char encode values.number_of values.is_numeral values.behind_minus
+unfolding packet_of read_on turn end_tag start_tag begun attributes attribute_at with_attribute ended refiner_of is_manual is_named reference character text_until next_character next_attribute is_utf8 chars is_xml_char encode values.number_of values.is_numeral values.behind_minus
 tags = refl
 
 bad_numbers : map fault_of (packet_of (query (text ++ codes "<Range><StartAt> &#49;x</StartAt>")) ∷ packet_of (query (text ++ codes "<Range><StartAt> </StartAt>")) ∷ packet_of (query (text ++ codes "<Range><StartAt/>"))
@@ -54,10 +55,10 @@ bad_numbers : map fault_of (packet_of (query (text ++ codes "<Range><StartAt> &#
     ∷ packet_of (query (text ++ codes "<SortByProperties><SortByProperty name='a' direction='Up' <"))
     ∷ packet_of (query (text ++ codes "<SortByProperties><SortByProperty direction='' <")) ∷ packet_of (255 ∷ []) ∷ packet_of (query (text ++ codes "<Range><Query>")) ∷ [])
     ≡ (506, 115) ∷ (506, 115) ∷ (506, 105) ∷ (506, 114) ∷ (512, 120) ∷ (514, 152) ∷ (514, 143) ∷ (501, 0) ∷ (503, 105) ∷ []
-unfolding packet_of read_on turn end_tag start_tag begun attributes attribute_at with_attribute ended refiner_of reference character text_until is_utf8 chars is_xml_char encode utf8_valid_len values.number_of values.is_numeral values.behind_minus
+unfolding packet_of read_on turn end_tag start_tag begun attributes attribute_at with_attribute ended refiner_of is_manual is_named reference character text_until next_character next_attribute is_utf8 chars is_xml_char encode utf8_valid_len values.number_of values.is_numeral values.behind_minus
 bad_numbers = refl
 
 full : packet_of (239 ∷ 187 ∷ 191 ∷ codes "<?xml version='1.0'?>" ++ query (codes "<!-- all -->" ++ codes "<Context a = '>' ><QueryText type='FQL'> a&lt;&#x41; </QueryText ></Context><Range><Count> 5 </Count></Range><Properties><Property name=' t '/></Properties><Refiners><Refiner> size(discretize=manual/6/7) </Refiner></Refiners><SortByProperties><SortByProperty name='Rank' direction='descending'></SortByProperty></SortByProperties><ImplicitAndBehavior>False</ImplicitAndBehavior>"))
     ≡ Ok (record { language = language.Fql; text = codes " a<A "; start = 1; count = 5; properties = codes " t " ∷ []; refiners = record { name = codes "size"; bounds = pos 6 ∷ pos 7 ∷ [] } ∷ []; sorts = record { name = codes "Rank"; direction = direction.Descending } ∷ []; implicit_and = false })
-unfolding packet_of read_on turn end_tag start_tag begun attributes attribute_at with_attribute ended refiner_of reference character text_until is_utf8 chars is_xml_char encode values.number_of values.is_numeral values.behind_minus
+unfolding packet_of read_on turn end_tag start_tag begun attributes attribute_at with_attribute ended refiner_of is_manual is_named reference character text_until next_character next_attribute is_utf8 chars is_xml_char encode values.number_of values.is_numeral values.behind_minus
 full = refl

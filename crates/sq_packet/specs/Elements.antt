@@ -49,8 +49,11 @@ children_of (Some Refiners) = Refiner ∷ []
 children_of (Some SortByProperties) = SortByProperty ∷ []
 children_of (Some other) = []
 
+unfoldable pub is_named : List ℕ → Element → Bool
+is_named name element = bytes_eq (name_of element) name
+
 abbrev pub child_of : Option Element → List ℕ → Option Element
-child_of inside name = find (λ element. bytes_eq (name_of element) name) (children_of inside)
+child_of inside name = find (is_named name) (children_of inside)
 
 abbrev pub parent_of : Element → Option Element
 parent_of QueryPacket = None

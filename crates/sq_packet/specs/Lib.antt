@@ -1,8 +1,10 @@
 pub mod Asked
+pub mod Digits
 pub mod Elements
 pub mod Gives
 pub mod Marks
 pub mod Packet
+pub mod Readings
 pub mod Refiners
 pub mod Texts
 pub mod Words

@@ -1,6 +1,7 @@
 -- The request that a packet is, or its first fault from left to right. A fault is refused where it is found, which its place may stand before:
 -- so of two faults the one that stands first in a definition is found first, and those found at one byte stand by code and then by place.
-use Rattle.std.specs.Prelude.{ℕ, zero, suc, ◌+◌, Bool, true, false, not, ◌&&◌, ◌||◌, ◌==◌, nat_le, if◌then◌else◌, List, [], ◌∷◌, ◌++◌, length, drop, chars, codes, Option, Some, None, option_map, is_some, Ok, Err, Result}
+use Rattle.std.specs.Prelude.{ℕ, zero, suc, ◌+◌, Bool, true, false, not, ◌&&◌, ◌||◌, ◌==◌, nat_le, if◌then◌else◌, List, [], ◌∷◌, ◌++◌, length, drop, chars, codes, Option, Some, None, is_some, Ok, Err, Result}
+use Rattle.std.specs.Borrow.{Bor}
 use Rattle.std.specs.List.{list_any}
 use Rattle.std.specs.Str.{bytes_eq, is_utf8}
 use Rattle.std.specs.Str.Lossy.{utf8_valid_len}
@@ -12,6 +13,7 @@ use Rattle.sq_packet.specs.declared.element.Element.{Element}
 use Rattle.sq_packet.specs.declared.element.Element.TheVariants as element
 use Rattle.sq_packet.specs.declared.element.Content.{Content}
 use Rattle.sq_packet.specs.declared.element.Content.TheVariants.{Elements, Words}
+use Rattle.sq_packet.specs.declared.request.Language.{Language}
 use Rattle.sq_packet.specs.declared.request.Language.TheVariants as language
 use Rattle.sq_packet.specs.declared.request.Direction.TheVariants.{Ascending, Descending}
 use Rattle.sq_packet.specs.declared.request.Direction.{Direction}
@@ -21,8 +23,9 @@ use Rattle.sq_packet.specs.declared.request.Request.{Request}
 use Rattle.sq_packet.specs.declared.draft.Draft.{Draft}
 use Rattle.sq_packet.specs.declared.draft.Tag.{Tag}
 use Rattle.sq_packet.specs.declared.draft.Attribute.{Attribute}
-use Rattle.sq_packet.specs.Marks.{marks_from, place, misfit, unless, has_some, begins, expected, skip_blanks, begins_blank, comment, declaration, name}
-use Rattle.sq_packet.specs.Texts.{text_to, bytes_of, trimmed}
+pub use Rattle.sq_packet.specs.Marks.{has_some}
+use Rattle.sq_packet.specs.Marks.{marks_from, place, misfit, unless, begins, expected, skip_blanks, begins_blank, comment, declaration, name}
+pub use Rattle.sq_packet.specs.Texts.{text_to, bytes_of, trimmed}
 use Rattle.sq_packet.specs.Words.{is_word, whole_of, truth_of}
 use Rattle.sq_packet.specs.Refiners.{refiner_of}
 use Rattle.sq_packet.specs.Elements.{name_of, child_of, parent_of, content_of, repeats, is_seen, full_code}
@@ -54,13 +57,22 @@ with_count draft n = record draft { request = record draft.request { count = n }
 abbrev pub with_refiner : Draft → RefinerSpec → Draft
 with_refiner draft r = record draft { request = record draft.request { refiners = draft.request.refiners ++ r ∷ [] } }
 
+abbrev pub with_text : Draft → List ℕ → Draft
+with_text draft text = record draft { request = record draft.request { text = text } }
+
+abbrev pub with_behavior : Draft → Bool → Draft
+with_behavior draft b = record draft { request = record draft.request { implicit_and = b } }
+
+abbrev pub range_ended : Draft → Outcome Draft
+range_ended draft = if has_range draft.request then Ok draft else refused 508 draft.range
+
 -- what an element adds where it ends: its text, and the place of its end tag
 unfoldable pub ended : Element → List Mark → ℕ → Draft → Outcome Draft
 ended element.QueryPacket text at draft = needs element.Query draft at
 ended element.Query text at draft = needs element.Context draft at
 ended element.Context text at draft = needs element.QueryText draft at
-ended element.Range text at draft = if has_range draft.request then Ok draft else refused 508 draft.range
-ended element.QueryText text at draft = Ok (record draft { request = record draft.request { text = bytes_of text } })
+ended element.Range text at draft = range_ended draft
+ended element.QueryText text at draft = Ok (with_text draft (bytes_of text))
 ended element.StartAt text at draft = do
   n ← of_kind 506 at text whole_of
   Ok (with_start draft n)
@@ -72,7 +84,7 @@ ended element.Refiner text at draft = do
   Ok (with_refiner draft r)
 ended element.ImplicitAndBehavior text at draft = do
   b ← of_kind 512 at text truth_of
-  Ok (record draft { request = record draft.request { implicit_and = b } })
+  Ok (with_behavior draft b)
 ended other text at draft = Ok draft
 
 -- ---- attributes
@@ -92,18 +104,24 @@ with_direction value at tag =
     else (if is_word (codes "descending") value then Ok (record tag { direction = Descending })
     else refused 514 at)
 
+abbrev pub with_name : List ℕ → Tag → Tag
+with_name value tag = record tag { name = Some value }
+
+abbrev pub with_namespace : List ℕ → Tag → Tag
+with_namespace value tag = record tag { is_in_namespace = bytes_eq value (codes "urn:Microsoft.Search.Query") }
+
 -- an attribute of a sort: its name, or its direction
 abbrev pub sort_attribute : Attribute → Tag → Outcome Tag
 sort_attribute a tag =
-    if bytes_eq a.name (codes "name") then Ok (record tag { name = Some a.value })
+    if bytes_eq a.name (codes "name") then Ok (with_name a.value tag)
     else (if bytes_eq a.name (codes "direction") then with_direction a.value a.at tag else Ok tag)
 
 -- what an attribute says, at its closing quote; most say nothing
 unfoldable pub with_attribute : Element → Attribute → Tag → Outcome Tag
 with_attribute element.QueryPacket a tag =
-    if bytes_eq a.name (codes "xmlns") then Ok (record tag { is_in_namespace = bytes_eq a.value (codes "urn:Microsoft.Search.Query") }) else Ok tag
+    if bytes_eq a.name (codes "xmlns") then Ok (with_namespace a.value tag) else Ok tag
 with_attribute element.QueryText a tag = if bytes_eq a.name (codes "type") then with_language a.value a.at tag else Ok tag
-with_attribute element.Property a tag = if bytes_eq a.name (codes "name") then Ok (record tag { name = Some a.value }) else Ok tag
+with_attribute element.Property a tag = if bytes_eq a.name (codes "name") then Ok (with_name a.value tag) else Ok tag
 with_attribute element.SortByProperty a tag = sort_attribute a tag
 with_attribute other a tag = Ok tag
 
@@ -129,16 +147,28 @@ attribute_at end names ms = do
 abbrev pub ends_tag : List Mark → Bool
 ends_tag ms = begins (codes "/") ms || begins (codes ">") ms
 
+-- the attribute at the front behind white space, or nothing where the tag ends
+unfoldable pub next_attribute : ℕ → List (List ℕ) → List Mark → Outcome (Option (Attribute × List Mark))
+next_attribute end names ms =
+    if ends_tag (skip_blanks ms) then Ok None
+    else (if begins_blank ms then (attribute_at end names (skip_blanks ms) >>= (λ a. Ok (Some a))) else misfit end ms)
+
+-- what a call that takes an attribute or stands at the end of a tag answers
+abbrev pub attribute_view : Option (Attribute × Bor (List Mark)) → Option (Attribute × List Mark)
+attribute_view None = None
+attribute_view (Some (a, rest)) = Some (a, rest.now)
+
+abbrev pub attributes_by : (List (List ℕ) → Tag → List Mark → Outcome (Tag × List Mark)) → Element → List (List ℕ) → Tag → List Mark
+    → Option (Attribute × List Mark) → Outcome (Tag × List Mark)
+attributes_by next e names tag ms None = Ok (tag, skip_blanks ms)
+attributes_by next e names tag ms (Some a) = do
+  after ← with_attribute e a.0 tag
+  next (names ++ a.0.name ∷ []) after a.1
+
 -- The attributes of a tag, up to its `/` or `>`. The number bounds the turns.
 unfoldable pub attributes : ℕ → ℕ → Element → List (List ℕ) → Tag → List Mark → Outcome (Tag × List Mark)
 attributes zero end e names tag ms = misfit end ms
-attributes (suc turns) end e names tag ms =
-    if ends_tag (skip_blanks ms) then Ok (tag, skip_blanks ms)
-    else (if begins_blank ms then (do
-      a ← attribute_at end names (skip_blanks ms)
-      after ← with_attribute e a.0 tag
-      attributes turns end e (names ++ a.0.name ∷ []) after a.1)
-    else misfit end ms)
+attributes (suc turns) end e names tag ms = next_attribute end names ms >>= attributes_by (attributes turns end e) e names tag ms
 
 -- ---- tags
 
@@ -154,10 +184,13 @@ with_property draft n = record draft { request = record draft.request { properti
 abbrev pub with_sort : Draft → SortSpec → Draft
 with_sort draft s = record draft { request = record draft.request { sorts = draft.request.sorts ++ s ∷ [] } }
 
+abbrev pub with_query_language : Draft → Language → Draft
+with_query_language draft l = record draft { request = record draft.request { language = l } }
+
 -- what a start tag adds, at its `>`; its `<` stands at `from`
 unfoldable pub begun : Element → Tag → ℕ → ℕ → Draft → Outcome Draft
 begun element.QueryPacket tag from at draft = if tag.is_in_namespace then Ok draft else refused 503 from
-begun element.QueryText tag from at draft = Ok (record draft { request = record draft.request { language = tag.language } })
+begun element.QueryText tag from at draft = Ok (with_query_language draft tag.language)
 begun element.Property tag from at draft = do
   n ← named tag.name at
   Ok (with_property draft n)
@@ -233,31 +266,39 @@ end_tag end e text draft ms = do
 
 -- ---- the packet
 
-abbrev pub open_comment : ℕ → State → List Mark → Outcome State
-open_comment end s ms = do
-  inside ← expected end (codes "<!--") ms
-  rest ← comment end inside
-  Ok (state rest s.inside s.draft)
+abbrev pub open_comment : ℕ → Option Element → Draft → List Mark → Outcome State
+open_comment end inside draft ms = do
+  begun ← expected end (codes "<!--") ms
+  rest ← comment end begun
+  Ok (state rest inside draft)
+
+-- outside QueryPacket: a comment, or its start tag where it hasn't stood
+abbrev pub outer_turn : ℕ → Draft → List Mark → Outcome State
+outer_turn end draft ms = if begins (codes "<!") ms || has_some draft.seen then open_comment end None draft ms else start_tag end None draft ms
 
 -- where elements may stand: a comment, an end tag or a start tag
-abbrev pub element_turn : ℕ → Option Element → State → List Mark → Outcome State
-element_turn end None s ms = if begins (codes "<!") ms || has_some s.draft.seen then open_comment end s ms else start_tag end None s.draft ms
-element_turn end (Some e) s ms =
-    if begins (codes "<!") ms then open_comment end s ms
-    else (if begins (codes "</") ms then end_tag end e [] s.draft ms
-    else start_tag end (Some e) s.draft ms)
+abbrev pub element_turn : ℕ → Element → Draft → List Mark → Outcome State
+element_turn end e draft ms =
+    if begins (codes "<!") ms then open_comment end (Some e) draft ms
+    else (if begins (codes "</") ms then end_tag end e [] draft ms
+    else start_tag end (Some e) draft ms)
 
-abbrev pub text_turn : ℕ → Element → State → Outcome State
-text_turn end e s = do
-  text ← text_to end 60 s.rest
-  end_tag end e text.0 s.draft text.1
+abbrev pub text_turn : ℕ → Element → Draft → List Mark → Outcome State
+text_turn end e draft ms = do
+  text ← text_to end 60 ms
+  end_tag end e text.0 draft text.1
 
-abbrev pub turn_by : Option Content → Option Element → ℕ → State → Outcome State
-turn_by (Some Words) (Some e) end s = text_turn end e s
-turn_by content inside end s = element_turn end inside s (skip_blanks s.rest)
+abbrev pub turn_by : Content → ℕ → Element → Draft → List Mark → Outcome State
+turn_by Words end e draft ms = text_turn end e draft ms
+turn_by Elements end e draft ms = element_turn end e draft (skip_blanks ms)
 
+abbrev pub turn_in : Option Element → ℕ → Draft → List Mark → Outcome State
+turn_in None end draft ms = outer_turn end draft (skip_blanks ms)
+turn_in (Some e) end draft ms = turn_by (content_of e) end e draft ms
+
+-- one comment, start tag, or end tag with its text
 unfoldable pub turn : ℕ → State → Outcome State
-turn end s = turn_by (option_map content_of s.inside) s.inside end s
+turn end s = turn_in s.inside end s.draft s.rest
 
 -- QueryPacket has stood and ended, and only white space is left
 abbrev pub is_done : State → Bool

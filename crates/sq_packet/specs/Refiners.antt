@@ -1,12 +1,12 @@
 -- The texts of refiners: a name, or a name and `(discretize=manual/B1/B2/..)`.
-use Rattle.std.specs.Prelude.{ℕ, ℤ, int_lt, Bool, true, false, not, ◌&&◌, ◌||◌, ◌==◌, nat_le, if◌then◌else◌, List, [], ◌∷◌, drop, length, codes, Option, Some, None, Result, Ok, Err}
+use Rattle.std.specs.Prelude.{ℕ, ℤ, int_lt, Bool, true, false, not, ◌&&◌, ◌==◌, nat_le, if◌then◌else◌, List, [], ◌∷◌, drop, length, codes, Option, Some, None, Result, Ok, Err}
 use Rattle.std.specs.List.{list_all, slice_split}
 use Rattle.std.specs.Str.{bytes_eq}
 use Rattle.sq_base.specs.declared.faults.QueryFault.{QueryFault}
 use Rattle.sq_schema.specs.declared.values.NumberFault.{NumberFault}
 use Rattle.sq_schema.specs.Values.{number_of}
 use Rattle.sq_packet.specs.declared.request.RefinerSpec.{RefinerSpec}
-use Rattle.sq_packet.specs.Marks.{is_blank}
+pub use Rattle.sq_packet.specs.Marks.{is_blank}
 
 abbrev pub refiner : List ℕ → List ℤ → RefinerSpec
 refiner name bounds = record { name = name; bounds = bounds }
@@ -15,11 +15,14 @@ abbrev pub last_of : ℕ → List ℕ → ℕ
 last_of b [] = b
 last_of b (c ∷ cs) = last_of c cs
 
+abbrev pub has_no_parentheses : List ℕ → Bool
+has_no_parentheses bytes = list_all (λ b. not (b == 40) && not (b == 41)) bytes
+
 -- one or more characters other than parentheses, without white space at either end
 abbrev pub is_refiner_name : List ℕ → Bool
 is_refiner_name [] = false
 is_refiner_name (b ∷ bytes) =
-    not (is_blank b) && not (is_blank (last_of b bytes)) && list_all (λ c. not (c == 40 || c == 41)) (b ∷ bytes)
+    not (is_blank b) && not (is_blank (last_of b bytes)) && has_no_parentheses (b ∷ bytes)
 
 -- each is below the next one
 abbrev pub are_rising : List ℤ → Bool
@@ -40,15 +43,29 @@ abbrev pub with_bounds : List ℕ → Option (List ℤ) → Option RefinerSpec
 with_bounds name None = None
 with_bounds name (Some bounds) = if nat_le (length bounds) 64 && are_rising bounds then Some (refiner name bounds) else None
 
+abbrev pub bounded : List ℕ → List (List ℕ) → Option RefinerSpec
+bounded name [] = None
+bounded name (bound ∷ bounds) = with_bounds name (numbers_of (bound ∷ bounds))
+
+unfoldable pub is_manual : List ℕ → Bool
+is_manual word = bytes_eq word (codes "discretize=manual")
+
 -- `discretize=manual` and one bound or more, each behind a `/`
 abbrev pub discretized : List ℕ → List (List ℕ) → Option RefinerSpec
-discretized name (word ∷ (bound ∷ bounds)) = if bytes_eq word (codes "discretize=manual") then with_bounds name (numbers_of (bound ∷ bounds)) else None
-discretized name parts = None
+discretized name [] = None
+discretized name (word ∷ bounds) = if is_manual word then bounded name bounds else None
+
+-- only an empty part is left
+abbrev pub is_end : List (List ℕ) → Bool
+is_end [] = false
+is_end ([] ∷ []) = true
+is_end ((b ∷ bytes) ∷ []) = false
+is_end (part ∷ (other ∷ more)) = false
 
 -- nothing stands behind the `)`
 abbrev pub closed_list : List ℕ → List (List ℕ) → Option RefinerSpec
-closed_list name (list ∷ ([] ∷ [])) = discretized name (slice_split (λ b. b == 47) list)
-closed_list name parts = None
+closed_list name [] = None
+closed_list name (list ∷ behind) = if is_end behind then discretized name (slice_split (λ b. b == 47) list) else None
 
 -- a name alone, or a name and what stands between `(` and the `)` at the end
 abbrev pub refiner_by : List ℕ → List (List ℕ) → Option RefinerSpec

@@ -1,13 +1,13 @@
 -- What short texts say: whole numbers, yes or no.
 use Rattle.std.specs.Prelude.{ℕ, ◌^◌, Bool, true, false, ◌&&◌, nat_le, nat_lt, if◌then◌else◌, List, map, length, codes, Option, Some, None}
-use Rattle.std.specs.Char.{is_ascii_digit, to_ascii_lowercase}
+use Rattle.std.specs.Char.{is_ascii_digit}
 use Rattle.std.specs.List.{list_all}
-use Rattle.std.specs.Str.{bytes_eq}
+use Rattle.std.specs.Str.{str_eq_ignore_ascii_case}
 use Rattle.std.specs.Str.Parse.{digits_value}
 
--- the text is this word, ASCII case ignored; the word is in lower case
+-- the text is this word, ASCII case ignored
 abbrev pub is_word : List ℕ → List ℕ → Bool
-is_word word text = bytes_eq (map to_ascii_lowercase text) word
+is_word word text = str_eq_ignore_ascii_case text word
 
 -- 1 to 10 digits, of at most 32 bits
 abbrev pub whole_of : List ℕ → Option ℕ

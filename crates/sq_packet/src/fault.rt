@@ -34,3 +34,9 @@ impl<T: Drop> From<AllocFailed<T>> for PacketFault {
         PacketFault::NoMemory
     }
 }
+
+pub fn refused(code: u16, at: u32) -> QueryFault
+    ensures { result ≡ record { code = code; at = at } }
+{
+    QueryFault { code, at }
+}

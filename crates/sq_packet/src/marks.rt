@@ -1,15 +1,15 @@
 //! Reading marks from the front.
 
 ghost use Rattle.std.specs.Prelude.{◌≡◌, ◌<◌, ◌^◌, length, chars, drop, IfOk};
+ghost use Rattle.sq_packet.specs.Gives.{Gives};
 ghost use Rattle.sq_packet.specs.Marks as spec;
 
 use crate::characters::{begins_name, is_blank, is_in, is_xml_char};
+use crate::codes::MALFORMED;
+use crate::fault::{PacketFault, refused};
 use crate::mark::{Class, Mark};
 use sq_base::{QueryFault, Text};
 use std::alloc::{AllocError, Global};
-
-/// The first character fits no rule, or the text ends early.
-const MALFORMED: u16 = 502;
 
 /// The characters of a text with their places.
 pub fn marks_of(alloc: Global, text: &str) -> Result<Vec<Mark>, AllocError>
@@ -39,10 +39,7 @@ pub fn place(end: u32, marks: &[Mark]) -> u32
 pub fn misfit(end: u32, marks: &[Mark]) -> QueryFault
     ensures { result ≡ record { code = 502; at = spec.place end marks.now } }
 {
-    QueryFault {
-        code: MALFORMED,
-        at: place(end, marks),
-    }
+    refused(MALFORMED, place(end, marks))
 }
 
 /// The marks behind so many.
@@ -164,4 +161,26 @@ pub fn run<'a>(
         left = rest;
     }
     Ok((Text::from_str(alloc, &text)?, left))
+}
+
+/// The name at the front. A name that ends where the text ends isn't known to be whole.
+pub fn name<'a>(
+    alloc: Global,
+    of: Class,
+    end: u32,
+    marks: &'a [Mark],
+) -> Result<(Text, &'a [Mark]), PacketFault>
+    ensures { Gives (λ r. (r.0, r.1.now)) result (spec.name of end marks.now) }
+{
+    let [first, ..] = marks else {
+        return Err(PacketFault::Packet(misfit(end, marks)));
+    };
+    if !begins_name(first.c) {
+        return Err(PacketFault::Packet(misfit(end, marks)));
+    }
+    let (name, rest) = run(alloc, of, marks)?;
+    match rest {
+        [] => Err(PacketFault::Packet(misfit(end, rest))),
+        [_, ..] => Ok((name, rest)),
+    }
 }
