@@ -1,8 +1,6 @@
 -- What may follow a list.
-use Rattle.std.proofs.Common.{◌≡◌, List, [], ◌∷◌, ◌++◌, refl}
-use Rattle.sq_coded.specs.Coded.{comes_before, may_follow}
+use Rattle.std.proofs.Common.{[], ◌∷◌, refl}
 use Rattle.sq_coded.specs.Laws.{FollowsLast}
-use Rattle.sq_coded.specs.declared.posting.Posting.{Posting}
 
 pub follows_last : FollowsLast
 follows_last [] last next = refl

@@ -1,16 +1,15 @@
 -- Enough matches: what keeps them enough.
-use Rattle.std.proofs.Common.{◌≡◌, ◌⊎◌, ◌↔◌, inl, inr, ℕ, ◌+◌, ◌<◌, ◌≤◌, Bool, true, false, not, ◌&&◌, ◌||◌, List, [], ◌∷◌, ◌++◌, map, refl, sym, ◌∙◌, ap, ap₂, Some, None, Option, subst, arith}
-use Rattle.std.specs.Prelude.{nat_eq, nat_le}
-use Rattle.std.specs.List.{list_all, filter, reduce}
-use Rattle.std.proofs.lemmas.Bool.{leb-true, le-leb, eqb-true, eq-eqb}
+use Rattle.std.proofs.Common.{◌≡◌, inl, inr, Bool, true, false, not, ◌&&◌, ◌||◌, List, [], ◌∷◌, refl, ◌∙◌, ap, ap₂, subst, arith}
+use Rattle.std.specs.Prelude.{nat_le}
+use Rattle.std.specs.List.{list_all}
+use Rattle.std.proofs.lemmas.Bool.{leb-true, le-leb}
 use Rattle.sq_model.specs.Lists.{joined}
-use Rattle.sq_model.specs.Triples.{join, near}
 use Rattle.sq_least.specs.Dense.{Within, Dense, EachDense, DenseChain, LeastOfDense, DenseUnion, DenseNear}
 use Rattle.sq_least.specs.Laws.{Inside, IsLeast, HasOneWeight}
 use Rattle.sq_least.specs.Plan.{lies_inside, least}
 use Rattle.sq_model.specs.declared.triple.Triple.{Triple}
-use Rattle.sq_model.proofs.Members.{IsIn, in_append, in_append_left, in_append_right, to_filter, of_filter, to_flat_map, of_flat_map}
-use Rattle.sq_model.proofs.Choices.{IsChoice, IsNear, to_near, of_near}
+use Rattle.sq_model.proofs.Members.{IsIn, in_append, in_append_left, in_append_right, to_filter, of_filter}
+use Rattle.sq_model.proofs.Choices.{IsChoice, to_near, of_near}
 use Rattle.sq_least.proofs.LeastNear.{EachWithin, inside_chain, inside_same, least_of, joined_within, ordered_within, near_within, same_triple}
 
 within_chain : (s t u : Triple) → Within s t → Within t u → Within s u

@@ -3,7 +3,7 @@ use Rattle.std.proofs.Common.{inl, inr, List, [], ◌∷◌}
 use Rattle.sq_model.specs.Lists.{joined}
 use Rattle.sq_model.specs.declared.triple.Triple.{Triple}
 use Rattle.sq_model.proofs.Members.{IsIn, in_append, in_append_left, in_append_right}
-use Rattle.sq_least.specs.Laws.{Inside, IsLeast, AreLeast, LeastOfUnion}
+use Rattle.sq_least.specs.Laws.{Inside, AreLeast, LeastOfUnion}
 use Rattle.sq_least.proofs.LeastNear.{inside_chain, least_of}
 
 of_few : (parts fews : List (List Triple)) → AreLeast fews parts → (t : Triple) → IsIn t (joined fews) → IsIn t (joined parts)

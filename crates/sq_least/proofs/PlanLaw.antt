@@ -1,7 +1,7 @@
 -- The least matches of a proximity expression are those of its plan.
-use Rattle.std.proofs.Common.{◌≡◌, ◌⊎◌, ◌↔◌, inl, inr, ℕ, ◌+◌, Bool, true, false, not, ◌&&◌, ◌||◌, cond, List, [], ◌∷◌, ◌++◌, map, length, refl, sym, ◌∙◌, ap, ap₂, Some, None, Option, subst, arith}
+use Rattle.std.proofs.Common.{◌≡◌, ◌⊎◌, inl, inr, ℕ, Bool, true, false, ◌||◌, cond, List, [], ◌∷◌, ◌++◌, map, length, refl, sym, ◌∙◌, ap, subst}
 use Rattle.std.specs.Prelude.{nat_eq}
-use Rattle.std.specs.List.{list_any, filter, sum, flat_map}
+use Rattle.std.specs.List.{list_any, filter, sum}
 use Rattle.std.proofs.lemmas.Bool.{eqb-true, eq-eqb}
 use Rattle.sq_model.specs.Passages.{Passage}
 use Rattle.sq_model.specs.Places.{places}
@@ -10,13 +10,13 @@ use Rattle.sq_model.specs.Triples.{of_phrase, at_place, choices, near}
 use Rattle.sq_model.specs.Spans.{triples, triples_each}
 use Rattle.sq_model.specs.Copies.{distinct, weights, weights_each}
 use Rattle.sq_least.specs.Dense.{Dense, EachDense, HaveWeights, weights_of_sum, DenseSums, WeightsOfMatches}
-use Rattle.sq_least.specs.Laws.{IsLeast, IsAsLong, of_weight, of_weights}
+use Rattle.sq_least.specs.Laws.{IsAsLong, of_weight, of_weights}
 use Rattle.sq_least.specs.Plan.{least, plan, plan_all, plan_each, LeastByWeight}
 use Rattle.sq_model.specs.declared.triple.Triple.{Triple}
 use Rattle.sq_model.specs.declared.fql.SpanTree.{SpanTree, Leaf, Union', Near', Row_of-SpanTree, end_of-SpanTree, more_of-SpanTree}
 use Rattle.sq_model.proofs.Members.{IsIn, in_append, in_append_left, in_append_right, to_filter, of_filter, to_map, of_map, to_flat_map, of_flat_map}
 use Rattle.sq_model.proofs.Choices.{IsChoice, to_choices, of_choices, to_near, of_near}
-use Rattle.sq_least.proofs.WeightsSplit.{weight, weight-joined, finer, as_long, coarser}
+use Rattle.sq_least.proofs.WeightsSplit.{weight, weight-joined, finer, coarser}
 use Rattle.sq_least.proofs.LeastNear.{inside_same}
 use Rattle.sq_least.proofs.DenseLemmas.{dense_same, dense_chain, least_of_dense, dense_least, dense_union, dense_near}
 

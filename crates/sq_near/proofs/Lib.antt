@@ -1,5 +1,6 @@
 mod BaseLemmas
 mod CoverLemmas
+mod Examples
 mod FindLemmas
 mod HeadLemmas
 mod JoinLemmas
