@@ -1,5 +1,5 @@
 -- Each request that is read may be asked, and each fault of a packet lies in it.
-use Rattle.std.proofs.Common.{◌≡◌, ℕ, zero, suc, ◌+◌, ◌<◌, ◌≤◌, ◌∙◌, nat_le, ◌==◌, Bool, true, false, not, is_some, ◌&&◌, ◌||◌, if◌then◌else◌, List, [], ◌∷◌, ◌++◌, length, drop, chars, Option, Some, None, Result, Ok, Err, IfOk, ℤ, refl, sym, ap, subst, All, arith, length-append}
+use Rattle.std.proofs.Common.{◌≡◌, ℕ, zero, suc, ◌+◌, ◌<◌, ◌≤◌, nat_le, ◌==◌, Bool, true, false, not, ◌&&◌, ◌||◌, if◌then◌else◌, List, [], ◌∷◌, ◌++◌, length, drop, chars, Option, Some, None, Result, Ok, Err, IfOk, ℤ, refl, sym, ap, subst, All, arith, length-append}
 use Rattle.std.proofs.lemmas.Bool.Decides.{nat_tests}
 use Rattle.std.proofs.lemmas.List.Elements.{All-push}
 use Rattle.std.proofs.lemmas.Str.{utf8_valid_len_le, encodes-chars, IsUtf8-from_is_utf8}
@@ -7,7 +7,7 @@ use Rattle.std.specs.Prelude.{codes}
 use Rattle.std.specs.List.{find, list_any, slice_split}
 use Rattle.std.specs.Str.{bytes_eq, is_utf8}
 use Rattle.sq_base.specs.declared.faults.QueryFault.{QueryFault}
-use Rattle.sq_base.specs.Outcome.{Outcome, refused, or_refused, ◌>>=◌}
+use Rattle.sq_base.specs.Outcome.{Outcome, or_refused}
 use Rattle.sq_packet.specs.declared.mark.Mark.{Mark}
 use Rattle.sq_packet.specs.declared.mark.Class.TheVariants as class
 use Rattle.sq_packet.specs.declared.element.Element.{Element}
@@ -22,12 +22,12 @@ use Rattle.sq_packet.specs.declared.draft.Attribute.{Attribute}
 use Rattle.sq_packet.specs.declared.fault.PacketFault.{PacketFault}
 use Rattle.sq_packet.specs.Gives.{Gives}
 use Rattle.sq_packet.specs.Asked.{HasBuckets, IsAsked}
-use Rattle.sq_packet.specs.Marks.{marks_from, place, misfit, unless, begins, expected, skip_blanks, begins_blank, comment, declaration, name, has_some}
+use Rattle.sq_packet.specs.Marks.{marks_from, place, unless, begins, expected, skip_blanks, begins_blank, comment, name, has_some}
 use Rattle.sq_packet.specs.Texts.{text_to, bytes_of, trimmed}
 use Rattle.sq_packet.specs.Words.{is_word, whole_of, truth_of}
-use Rattle.sq_packet.specs.Refiners.{refiner, is_refiner_name, are_rising, numbers_of, with_bounds, is_manual, bounded, discretized, is_end, closed_list, refiner_by, refiner_parts, refiner_of}
+use Rattle.sq_packet.specs.Refiners.{is_refiner_name, are_rising, numbers_of, with_bounds, is_manual, bounded, discretized, is_end, closed_list, refiner_by, refiner_parts, refiner_of}
 use Rattle.sq_packet.specs.Elements.{name_of, children_of, is_named, child_of, parent_of, content_of, repeats, is_seen, full_code}
-use Rattle.sq_packet.specs.Packet.{has_range, of_kind, with_text, with_behavior, with_query_language, with_start, with_count, with_refiner, ended, with_attribute, quote, attribute_at, ends_tag, next_attribute, attributes_by, attributes, no_attributes, with_language, with_direction, named, sort_spec, with_property, with_sort, begun, State, state, range_at, at_tag, tag_end, name_ends, unless_code, room_for, once, start_tag, end_tag, open_comment, outer_turn, element_turn, text_turn, turn_by, turn_in, turn, is_done, read_on, behind_order_mark, behind_declaration, packet_from, packet_of, nothing_read}
+use Rattle.sq_packet.specs.Packet.{has_range, of_kind, with_text, with_behavior, with_query_language, with_start, with_count, with_refiner, ended, with_attribute, quote, attribute_at, ends_tag, next_attribute, attributes_by, attributes, no_attributes, with_language, with_direction, named, sort_spec, begun, State, state, range_at, at_tag, tag_end, name_ends, unless_code, room_for, once, start_tag, end_tag, open_comment, turn_by, turn_in, turn, is_done, read_on, behind_order_mark, behind_declaration, packet_from, packet_of, nothing_read}
 use Rattle.sq_packet.proofs.SoundLemmas.{Leads, leads_on, holds_if, or_leads, AreWithin, Rest, place_within, misfit_within, drop_within, skip_within, expected_leads, comment_leads, declaration_leads, name_leads, Next, Text, text_leads, trimmed_within, marks_within}
 
 -- ---- refiners

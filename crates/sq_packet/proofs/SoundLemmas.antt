@@ -1,19 +1,15 @@
 -- Each fault of a packet lies in it, and each request that is read may be asked.
-use Rattle.std.proofs.Common.{◌≡◌, ℕ, zero, suc, ◌+◌, ◌-◌, ◌<◌, ◌≤◌, ◌∙◌, nat_le, ◌==◌, Bool, true, false, not, ◌&&◌, ◌||◌, if◌then◌else◌, List, [], ◌∷◌, ◌++◌, length, drop, reverse, chars, map, Option, Some, None, Result, Ok, Err, ℤ, refl, sym, ap, subst, All, arith, length-append}
-use Rattle.std.proofs.lemmas.Bool.Decides.{nat_tests}
-use Rattle.std.proofs.lemmas.Str.{utf8_valid_len_le}
+use Rattle.std.proofs.Common.{◌≡◌, ℕ, zero, suc, ◌+◌, ◌≤◌, ◌==◌, Bool, true, false, if◌then◌else◌, List, [], ◌∷◌, length, drop, reverse, Option, Some, None, Ok, Err, refl, subst, arith, length-append}
 use Rattle.std.specs.Prelude.{codes}
 use Rattle.std.specs.Char.{encode_utf8}
-use Rattle.std.specs.List.{find, slice_split}
-use Rattle.std.specs.Str.{is_utf8, encode_utf8_all as encoded}
+use Rattle.std.specs.Str.{encode_utf8_all as encoded}
 use mathlib.Core.List.{reverse_aux}
-use Rattle.sq_base.specs.declared.faults.QueryFault.{QueryFault}
-use Rattle.sq_base.specs.Outcome.{Outcome, refused, or_refused, ◌>>=◌}
+use Rattle.sq_base.specs.Outcome.{Outcome, or_refused, ◌>>=◌}
 use Rattle.sq_base.specs.Xml.{is_xml_char}
 use Rattle.sq_packet.specs.declared.mark.Mark.{Mark}
 use Rattle.sq_packet.specs.declared.mark.Class.{Class}
 use Rattle.sq_packet.specs.declared.mark.Class.TheVariants as class
-use Rattle.sq_packet.specs.Marks.{marks_from, place, misfit, begins, expected, is_blank, skip_blanks, comment, declaration, is_in, begins_name, run, whole_name, name}
+use Rattle.sq_packet.specs.Marks.{marks_from, place, begins, expected, is_blank, skip_blanks, comment, declaration, is_in, begins_name, run, whole_name, name}
 use Rattle.sq_packet.specs.Texts.{Taken, numeral, base_of, with_rest, numeric, reference, character, next_character, onto_text, text_by, text_until, text_to, trimmed}
 
 -- a fault that lies in the packet, or a value of this kind

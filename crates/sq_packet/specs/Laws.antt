@@ -1,5 +1,5 @@
 -- What is known of every fault of a packet.
-use Rattle.std.specs.Prelude.{◌≡◌, ℕ, ◌≤◌, List, length, Result, Ok, Err}
+use Rattle.std.specs.Prelude.{◌≡◌, ℕ, ◌≤◌, List, length, Err}
 use Rattle.sq_base.specs.declared.faults.QueryFault.{QueryFault}
 use Rattle.sq_packet.specs.Packet.{packet_of}
 
