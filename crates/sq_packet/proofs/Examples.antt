@@ -1,17 +1,16 @@
 -- Worked packets, by computation.
-use Rattle.std.proofs.Common.{◌≡◌, ℕ, List, [], ◌∷◌, ◌++◌, map, true, false, refl, Ok, Err, Some, None, Option, Result, pos}
+use Rattle.std.proofs.Common.{◌≡◌, ℕ, List, [], ◌∷◌, ◌++◌, map, false, refl, Ok, Err, pos}
 use Rattle.std.specs.Prelude.{codes}
 use Rattle.std.specs.Str.{is_utf8, chars}
 use Rattle.std.specs.Str.Lossy.{utf8_valid_len}
 use lib.Utf8.{encode}
 use Rattle.sq_base.specs.Xml.{is_xml_char}
-use Rattle.sq_base.specs.declared.faults.QueryFault.{QueryFault}
 use Rattle.sq_packet.specs.declared.request.Language.TheVariants as language
 use Rattle.sq_packet.specs.declared.request.Direction.TheVariants as direction
 use Rattle.sq_packet.specs.declared.request.Request.{Request}
-use Rattle.sq_base.specs.Outcome.{Outcome, refused}
+use Rattle.sq_base.specs.Outcome.{Outcome}
 use Rattle.sq_packet.specs.Texts.{reference, character, text_until, next_character}
-use Rattle.sq_packet.specs.Packet.{packet_of, read_on, turn, end_tag, start_tag, begun, attributes, attribute_at, next_attribute, with_attribute, ended, no_request}
+use Rattle.sq_packet.specs.Packet.{packet_of, read_on, turn, end_tag, start_tag, begun, attributes, attribute_at, next_attribute, with_attribute, ended}
 use Rattle.sq_packet.specs.Refiners.{refiner_of, is_manual}
 use Rattle.sq_packet.specs.Elements.{is_named}
 use Rattle.sq_schema.specs.Values as values

@@ -1,5 +1,5 @@
 -- What a packet is, from what its parts are.
-use Rattle.std.proofs.Common.{◌≡◌, ℕ, suc, ◌∙◌, Bool, true, false, if◌then◌else◌, List, length, chars, None, Ok, Err, refl, sym, ap, IsUtf8}
+use Rattle.std.proofs.Common.{◌≡◌, ℕ, suc, ◌∙◌, Bool, if◌then◌else◌, List, length, chars, None, Ok, Err, sym, ap, IsUtf8}
 use Rattle.std.proofs.lemmas.Bool.{false_from_ne_true}
 use Rattle.std.proofs.lemmas.Str.{IsUtf8-from_is_utf8, is_utf8-from_IsUtf8}
 use Rattle.std.specs.Str.{is_utf8}
@@ -8,7 +8,6 @@ use Rattle.sq_base.specs.declared.faults.QueryFault.{QueryFault}
 use Rattle.sq_base.specs.Outcome.{Outcome, refused, ◌>>=◌}
 use Rattle.sq_packet.specs.declared.mark.Mark.{Mark}
 use Rattle.sq_packet.specs.declared.draft.Draft.{Draft}
-use Rattle.sq_packet.specs.declared.request.Request.{Request}
 use Rattle.sq_packet.specs.Marks.{marks_from}
 use Rattle.sq_packet.specs.Packet.{state, nothing_read, read_on, behind_order_mark, behind_declaration, packet_from, packet_of}
 

@@ -1,6 +1,5 @@
 -- What a call answers, seen by `view`, is the outcome, unless memory ran out.
 use Rattle.std.specs.Prelude.{◌≡◌, Result, Ok, Err}
-use Rattle.sq_base.specs.declared.faults.QueryFault.{QueryFault}
 use Rattle.sq_base.specs.Outcome.{Outcome}
 use Rattle.sq_packet.specs.declared.fault.PacketFault.{PacketFault}
 use Rattle.sq_packet.specs.declared.fault.PacketFault.TheVariants as faults

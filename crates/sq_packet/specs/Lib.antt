@@ -2,6 +2,7 @@ pub mod Asked
 pub mod Digits
 pub mod Elements
 pub mod Gives
+pub mod Laws
 pub mod Marks
 pub mod Packet
 pub mod Readings

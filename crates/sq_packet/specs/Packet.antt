@@ -1,11 +1,10 @@
 -- The request that a packet is, or its first fault from left to right. A fault is refused where it is found, which its place may stand before:
 -- so of two faults the one that stands first in a definition is found first, and those found at one byte stand by code and then by place.
-use Rattle.std.specs.Prelude.{ℕ, zero, suc, ◌+◌, Bool, true, false, not, ◌&&◌, ◌||◌, ◌==◌, nat_le, if◌then◌else◌, List, [], ◌∷◌, ◌++◌, length, drop, chars, codes, Option, Some, None, is_some, Ok, Err, Result}
+use Rattle.std.specs.Prelude.{ℕ, zero, suc, ◌+◌, Bool, true, false, not, ◌&&◌, ◌||◌, ◌==◌, nat_le, if◌then◌else◌, List, [], ◌∷◌, ◌++◌, length, drop, chars, codes, Option, Some, None, is_some, Ok}
 use Rattle.std.specs.Borrow.{Bor}
 use Rattle.std.specs.List.{list_any}
 use Rattle.std.specs.Str.{bytes_eq, is_utf8}
 use Rattle.std.specs.Str.Lossy.{utf8_valid_len}
-use Rattle.sq_base.specs.declared.faults.QueryFault.{QueryFault}
 use Rattle.sq_base.specs.Outcome.{Outcome, refused, or_refused, ◌>>=◌, ◌>>◌}
 use Rattle.sq_packet.specs.declared.mark.Mark.{Mark}
 use Rattle.sq_packet.specs.declared.mark.Class.TheVariants as class

@@ -1,8 +1,7 @@
 -- The texts of refiners: a name, or a name and `(discretize=manual/B1/B2/..)`.
-use Rattle.std.specs.Prelude.{ℕ, ℤ, int_lt, Bool, true, false, not, ◌&&◌, ◌==◌, nat_le, if◌then◌else◌, List, [], ◌∷◌, drop, length, codes, Option, Some, None, Result, Ok, Err}
+use Rattle.std.specs.Prelude.{ℕ, ℤ, int_lt, Bool, true, false, not, ◌&&◌, ◌==◌, nat_le, if◌then◌else◌, List, [], ◌∷◌, length, codes, Option, Some, None, Result, Ok}
 use Rattle.std.specs.List.{list_all, slice_split}
 use Rattle.std.specs.Str.{bytes_eq}
-use Rattle.sq_base.specs.declared.faults.QueryFault.{QueryFault}
 use Rattle.sq_schema.specs.declared.values.NumberFault.{NumberFault}
 use Rattle.sq_schema.specs.Values.{number_of}
 use Rattle.sq_packet.specs.declared.request.RefinerSpec.{RefinerSpec}

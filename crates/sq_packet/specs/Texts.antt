@@ -1,5 +1,5 @@
 -- Texts and attribute values: characters and references.
-use Rattle.std.specs.Prelude.{◌≡◌, ◌++◌, Err, ℕ, zero, suc, Bool, true, false, ◌&&◌, ◌||◌, ◌==◌, not, if◌then◌else◌, List, [], ◌∷◌, map, reverse, drop, length, codes, Ok, Result, Option, Some, None}
+use Rattle.std.specs.Prelude.{◌≡◌, ◌++◌, Err, ℕ, zero, suc, ◌==◌, if◌then◌else◌, List, [], ◌∷◌, map, reverse, drop, length, codes, Ok, Option, Some, None}
 use Rattle.std.specs.Str.{encode_utf8_all}
 use Rattle.std.specs.Borrow.{Bor}
 use Rattle.std.specs.Str.Parse.{digits_value}
@@ -8,7 +8,6 @@ use Rattle.sq_packet.specs.declared.mark.Mark.{Mark}
 use Rattle.sq_packet.specs.declared.mark.Class.{Class}
 use Rattle.sq_packet.specs.declared.mark.Class.TheVariants as class
 use Rattle.sq_base.specs.Outcome.{Outcome, or_refused, ◌>>=◌}
-use Rattle.sq_base.specs.declared.faults.QueryFault.{QueryFault}
 use Rattle.sq_packet.specs.Marks.{mark, misfit, has_some, begins, run, skip_blanks}
 
 -- a character and the marks behind what stands for it

@@ -9,6 +9,7 @@ mod element;
 mod elements;
 mod ends;
 mod fault;
+mod laws;
 mod mark;
 mod marks;
 mod read;
@@ -19,5 +20,6 @@ mod texts;
 mod words;
 
 pub use fault::PacketFault;
+pub use laws::faults_lie_in_the_packet;
 pub use read::read_packet;
 pub use request::{Direction, Language, RefinerSpec, Request, SortSpec};

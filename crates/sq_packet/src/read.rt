@@ -194,6 +194,7 @@ fn packet_from(alloc: Global, end: u32, marks: &[Mark]) -> Result<Request, Packe
 pub fn read_packet(alloc: Global, bytes: &[u8]) -> Result<Request, PacketFault>
     requires { length bytes.now ≤ 131072 }
     ensures value { Gives (λ r. r) result (spec.packet_of bytes.now) }
+    ensures limits { IfOk result IsAsked }
 {
     let text = match str::from_utf8(bytes) {
         Ok(text) => text,

@@ -1,4 +1,4 @@
-use Rattle.std.proofs.Common.{◌≡◌, ◌∙◌, List, Ok, Err, Some, None, sym, ap}
+use Rattle.std.proofs.Common.{◌∙◌, List, Ok, Err, sym, ap}
 use Rattle.std.proofs.lemmas.Result.{err_from_is_err_and}
 use Rattle.sq_packet.specs.declared.mark.Mark.{Mark}
 use Rattle.sq_packet.proofs.TurnLemmas.{attributes_fails, attributes_refuses, attributes_ends, attributes_goes, attributes_over}

@@ -1,4 +1,4 @@
-use Rattle.std.proofs.Common.{◌≡◌, ◌∙◌, Err, sym, ap}
+use Rattle.std.proofs.Common.{◌∙◌, Err, sym, ap}
 use Rattle.std.proofs.lemmas.Result.{err_from_is_err_and}
 use Rattle.sq_packet.specs.Readings.{state_of}
 use Rattle.sq_packet.proofs.TurnLemmas.{read_done, read_goes, read_fails, read_over}

@@ -1,6 +1,5 @@
-use Rattle.std.proofs.Common.{◌≡◌, ◌∙◌, Ok, Err, Some, None, sym, ap}
+use Rattle.std.proofs.Common.{◌∙◌, Err, sym, ap}
 use Rattle.std.proofs.lemmas.Result.{err_from_is_err_and}
-use Rattle.sq_packet.specs.Texts.{next_character}
 use Rattle.sq_packet.proofs.TurnLemmas.{text_fails, text_ends, text_goes, text_over}
 use Rattle.sq_packet.proofs.texts.text_to.Goals as goal
 
