@@ -3,6 +3,8 @@
 #![tactic(auto)]
 
 #[cfg(test)]
+mod coded;
+#[cfg(test)]
 mod corpus;
 #[cfg(test)]
 mod cursor;
@@ -16,6 +18,10 @@ mod lex;
 mod lower;
 #[cfg(test)]
 mod memory;
+#[cfg(test)]
+mod near;
+#[cfg(test)]
+mod packets;
 #[cfg(test)]
 mod pool;
 #[cfg(test)]
