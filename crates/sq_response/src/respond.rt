@@ -13,7 +13,8 @@ use sq_base::{List, QueryFault};
 use std::alloc::{AllocError, Global};
 
 /// What stands before the answer of each response.
-const OPENING: &str = "<?xml version=\"1.0\" encoding=\"utf-8\"?><ResponsePacket xmlns=\"urn:Microsoft.Search.Response\"><Response>";
+const OPENING: &str =
+    "<?xml version=\"1.0\" encoding=\"utf-8\"?><ResponsePacket xmlns=\"urn:Microsoft.Search.Response\"><Response>";
 
 #[tactic(auto, unfolding(crate::specs::Response::opened))]
 fn push_open(text: &mut String, name: &str) -> Result<(), AllocError>
@@ -164,7 +165,12 @@ fn push_single(text: &mut String, value: i64, count: u64) -> Result<(), AllocErr
 }
 
 #[tactic(auto, unfolding(crate::specs::Response::entry_text))]
-fn push_bucket(text: &mut String, from: Option<i64>, to: Option<i64>, count: u64) -> Result<(), AllocError>
+fn push_bucket(
+    text: &mut String,
+    from: Option<i64>,
+    to: Option<i64>,
+    count: u64,
+) -> Result<(), AllocError>
     ensures { OnOk result (string_bytes text.new ≡ string_bytes text.old ++ spec.entry_text (Bucket from to count)) }
 {
     push_open(text, "Entry")?;

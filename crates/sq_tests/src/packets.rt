@@ -6,10 +6,15 @@ use std::alloc::{AllocError, Global};
 use std::test::Fail;
 
 const HEAD: &str = "<QueryPacket xmlns='urn:Microsoft.Search.Query'><Query>";
+
 const TEXT: &str = "<Context><QueryText>x</QueryText></Context>";
+
 const TAIL: &str = "</Query></QueryPacket>";
+
 const PROPERTY: &str = "<Property name='p'/>";
+
 const REFINER: &str = "<Refiner>a</Refiner>";
+
 const SORT: &str = "<SortByProperty name='a'/>";
 
 /// A packet and the place that `^` marks in it, or its end. Shorthand: `@`, `$` and `%` for the head, the query text and the
@@ -198,7 +203,8 @@ fn a_packet_of_a_sharepoint_client_is_read(rt: HostRuntime) -> Result<(), Fail> 
 }
 
 /// A packet with all that a request may say.
-const FULL: &str = "<QueryPacket xmlns='urn:Microsoft.Search.Query'><Query><Context a = '>' ><QueryText type='FQL'> a&lt;&#x41; </QueryText ></Context>\
+const FULL: &str =
+    "<QueryPacket xmlns='urn:Microsoft.Search.Query'><Query><Context a = '>' ><QueryText type='FQL'> a&lt;&#x41; </QueryText ></Context>\
 <Range><Count> 5 </Count><StartAt>2</StartAt></Range><Refiners><Refiner> size(discretize=manual/-6/7) </Refiner></Refiners>\
 <SortByProperties><SortByProperty name='Rank' direction='descending'></SortByProperty></SortByProperties>\
 <ImplicitAndBehavior>False</ImplicitAndBehavior></Query></QueryPacket>";
