@@ -49,10 +49,12 @@ check||SQCORPUS 1;property\ttitle\ttext\t;|3 corpus fault 602 line 2;\n\
 check||SQCORPUS 1;property\ttitle\ttext\tms;|3 corpus fault 602 line 2;\n\
 check||SQCORPUS 1;property\ttitle\twords\t-;|3 corpus fault 602 line 2;\n\
 check||SQCORPUS 1;property\tsize\tinteger\ts;|3 corpus fault 602 line 2;\n\
+check||SQCORPUS 1;property\tdraft\tyesno\ts;|3 corpus fault 602 line 2;\n\
 check||SQCORPUS 1;property\t9\ttext\t-;|3 corpus fault 602 line 2;\n\
 check||SQCORPUS 1;property\ttitle\ttext;|3 corpus fault 602 line 2;\n\
 check||SQCORPUS 1;property\ttitle\ttext\t-;property\tTitle\tinteger\t-;|3 corpus fault 605 line 3;\n\
 check||SQCORPUS 1;property\ttitle\ttext\t-;property\tTitle\tinteger\ts;|3 corpus fault 602 line 3;\n\
+check||SQCORPUS 1;property\ttitle\ttext\ts;property\tTITLE\tyesno\ts;|3 corpus fault 602 line 3;\n\
 check||SQCORPUS 1;value\ttitle\tx;|3 corpus fault 602 line 2;\n\
 check|head||0 ok 5 properties 1 callers 0 items;\n\
 check|head|property\tx\ttext\t-;|3 corpus fault 602 line 8;\n\
