@@ -6,39 +6,56 @@
 //! text `;` ends a line, and `{3*x}` is x three times, with the number of its repetition, from 0, in the place
 //! of a `#`; in a corpus `~` is the byte 255, which no text of UTF-8 has, and `^` the byte 195, which stands
 //! before no TAB there.
-ghost use Rattle.std.specs.Prelude.{None};
 
 mod corpora;
+mod failing;
+mod fixed;
 mod fql;
 mod kql;
+mod packets;
+mod served;
 mod words;
 
-use crate::adapters::{Reading, Writing};
-use crate::run::run;
 use corpora::{EDGES, GUARDED, HEAD, ITEM, WORKED};
-use sq_base::{Failed, MemSink, MemSource, Sink, Source};
+use sq_base::{MemPorts, MemSink, MemSource, Ports, Sink, Source};
+use sq_run::run;
+use sq_service::Services;
 use std::alloc::{AllocError, Global};
-use std::fs::File;
 use std::process::Abort;
-use std::test::Fail;
 
 /// 2024-02-29T12:00:00Z.
 const MOMENT: i64 = 1_709_208_000;
 
 /// The status of a run of these words.
-fn status_of<S: Source, K: Sink>(alloc: Global, words: &[&str], corpus: &mut S, out: &mut K) -> u8 {
-    run(alloc, words, MOMENT, corpus, out)
-}
-
-/// The status of a run and what it writes, as rows have it, where the writes of these numbers fail.
-fn reply<S: Source>(
+fn status_of<S: Source, I: Source, K: Sink, P: Ports>(
     alloc: Global,
     words: &[&str],
     corpus: &mut S,
+    input: &mut I,
+    out: &mut K,
+    ports: &mut P,
+) -> u8 {
+    run(
+        alloc, &Services, words, MOMENT, corpus, input, out, ports,
+    )
+}
+
+/// Ports at which nothing waits.
+fn no_ports(alloc: Global) -> Result<MemPorts, AllocError> {
+    MemPorts::new(alloc, Vec::new(alloc), Vec::new(alloc))
+}
+
+/// The status of a run and what it writes, as rows have it, where the writes of these numbers fail.
+fn reply<S: Source, I: Source>(
+    alloc: Global,
+    words: &[&str],
+    corpus: &mut S,
+    input: &mut I,
     failing: Vec<u32>,
 ) -> Result<String, AllocError> {
-    let mut out = MemSink::new(alloc, 1000, failing)?;
-    let status = status_of(alloc, words, corpus, &mut out);
+    let mut out = MemSink::new(alloc, 10_000, failing)?;
+    let mut ports = no_ports(alloc)?;
+    let status = status_of(alloc, words, corpus, input, &mut out, &mut ports);
     let text = String::from_utf8_lossy(alloc, out.bytes())?;
     let text = text.replace(alloc, '\n', ";")?;
     format!(in alloc; "{status} {text}")
@@ -121,7 +138,8 @@ fn asked(
     let rest = spelled(alloc, rest)?;
     let corpus = corpus_of(alloc, &front, &rest)?;
     let mut source = source_of(alloc, &corpus, Vec::new(alloc))?;
-    reply(alloc, &words, &mut source, Vec::new(alloc))
+    let mut input = source_of(alloc, "", Vec::new(alloc))?;
+    reply(alloc, &words, &mut source, &mut input, Vec::new(alloc))
 }
 
 /// The reply to a row, and what it has to be.
@@ -181,52 +199,7 @@ fn a_corpus_is_read_or_its_first_fault_is_told(rt: HostRuntime) -> Result<(), Al
     expect_rows(&rt, rt.alloc(), words::LIMITS)
 }
 
-/// So many bytes, made as they are read.
-#[derive(Drop)]
-struct Made {
-    left: u64,
-}
-
-impl Source for Made {
-    ghost left = { λ _. None };
-
-    ghost faults = { λ _. 0 };
-
-    fn read(&mut self, into: &mut [u8]) -> Result<usize, Failed> {
-        let count = (into.len() as u64).min(self.left);
-        self.left -= count;
-        Ok(count as usize)
-    }
-}
-
 #[test]
-fn failed_reads_and_writes_and_a_corpus_too_long_are_told(
-    rt: HostRuntime,
-) -> Result<(), AllocError> {
-    let alloc = rt.alloc();
-    let words = ["check"];
-    let none = Vec::new(alloc);
-    let mut source = source_of(alloc, WORKED, Vec::from_slice(alloc, &[1])?)?;
-    assert_eq!(rt; reply(alloc, &words, &mut source, none)?.as_str(), "4 ");
-    let mut source = source_of(alloc, WORKED, Vec::new(alloc))?;
-    let failing = Vec::from_slice(alloc, &[0])?;
-    assert_eq!(rt; reply(alloc, &words, &mut source, failing)?.as_str(), "5 ");
-    let mut source = Made { left: 67_108_865 };
-    assert_eq!(rt;
-        reply(alloc, &words, &mut source, Vec::new(alloc))?.as_str(),
-        "8 "
-    );
-    Ok(())
-}
-
-#[test]
-fn a_file_is_read_and_a_missing_one_is_a_failed_read(rt: HostRuntime) -> Result<(), Fail> {
-    let alloc = rt.alloc();
-    let mut corpus = Reading::new(File::open(&rt, "corpus.sq").ok());
-    let mut out = Writing::new(Vec::new(alloc));
-    assert_eq!(rt; status_of(alloc, &["check"], &mut corpus, &mut out), 4);
-    std::fs::write(&rt, "corpus.sq", WORKED)?;
-    let mut corpus = Reading::new(File::open(&rt, "corpus.sq").ok());
-    assert_eq!(rt; status_of(alloc, &["check"], &mut corpus, &mut out), 0);
-    Ok(())
+fn a_made_corpus_is_rehearsed(rt: HostRuntime) -> Result<(), AllocError> {
+    expect_rows(&rt, rt.alloc(), words::REHEARSED)
 }

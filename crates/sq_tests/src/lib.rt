@@ -1,32 +1,12 @@
-//! Tests of what no command of the program reaches, a file for each layer. The crate has no function of its
-//! own.
+//! Tests of the readers, of typing and of lowering, of what no command of the program reaches: a file for each layer. The crate
+//! has no function of its own.
 #![tactic(auto)]
 
 #[cfg(test)]
-mod coded;
-#[cfg(test)]
 mod corpus;
 #[cfg(test)]
-mod cursor;
-#[cfg(test)]
 mod fql;
-#[cfg(test)]
-mod http;
 #[cfg(test)]
 mod lex;
 #[cfg(test)]
 mod lower;
-#[cfg(test)]
-mod memory;
-#[cfg(test)]
-mod near;
-#[cfg(test)]
-mod packets;
-#[cfg(test)]
-mod pool;
-#[cfg(test)]
-mod responses;
-#[cfg(test)]
-mod schema;
-#[cfg(test)]
-mod tokens;

@@ -8,6 +8,18 @@ lower debt kql|2 \n\
 ask Ann|2 \n\
 ask Ann sql debt|2 \n\
 check all|2 \n\
+packet|2 \n\
+packet Ann Bob|2 \n\
+serve|2 \n\
+serve 0|2 \n\
+serve 01|2 \n\
+serve +1|2 \n\
+serve 1000001|2 \n\
+serve 1 1|2 \n\
+rehearse|2 \n\
+rehearse 0|2 \n\
+rehearse 2001|2 \n\
+rehearse 1x|2 \n\
 --help|2 ";
 
 /// Asked of other corpora: bounds by the first or last number of a value, the lists of an item and the claims of
@@ -142,3 +154,8 @@ check||SQCORPUS 1;{64*property\tp#\ttext\t-;}|0 ok 64 properties 0 callers 0 ite
 check||SQCORPUS 1;{65*property\tp#\ttext\t-;}|3 corpus fault 608 line 66;\n\
 check||SQCORPUS 1;{10000*caller\tx#;}|0 ok 0 properties 10000 callers 0 items;\n\
 check||SQCORPUS 1;{10001*caller\tx#;}|3 corpus fault 608 line 10002;";
+
+/// A made corpus, asked twelve times; the corpus's text isn't read.
+pub const REHEARSED: &str = "\
+rehearse 1||no corpus|0 reader 1 total 1 first 1 score 37;reader 2 total 0;reader 3 total 0;reader 4 total 0;reader 5 total 1 first 1 score 37;reader 6 total 1 first 1 score 37;chief 1 total 1 first 1 score 37;chief 2 total 0;chief 3 total 0;chief 4 total 0;chief 5 total 1 first 1 score 37;chief 6 total 1 first 1 score 37;\n\
+rehearse 12||no corpus|0 reader 1 total 5 first 8 score 94;reader 2 total 0;reader 3 total 0;reader 4 total 0;reader 5 total 1 first 1 score 37;reader 6 total 8 first 5 score 134;chief 1 total 7 first 8 score 94;chief 2 total 1 first 12 score 40;chief 3 total 0;chief 4 total 1 first 12 score 40;chief 5 total 2 first 1 score 37;chief 6 total 11 first 5 score 134;";

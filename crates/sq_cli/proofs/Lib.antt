@@ -1,6 +1,0 @@
-mod FilterLemmas
-mod HitLemmas
-mod HitsLemmas
-mod MeansLemmas
-mod QueryLemmas
-mod ReplyLemmas

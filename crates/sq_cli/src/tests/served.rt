@@ -1,0 +1,153 @@
+//! Connections, in rows `COUNT|WIRE|WIRE..|WANT`: what comes in on each wire, and the status with what goes out on each,
+//! each behind ` / `. In these `;` is the end of a line, CR LF.
+
+use super::corpora::WORKED;
+use super::packets::packet_of;
+use super::{MOMENT, source_of, status_of};
+use sq_base::{MemPorts, MemSink, MemSource, MemWire};
+use std::alloc::{AllocError, Global};
+use std::process::Abort;
+
+/// A wire on which this text comes in, whole or byte by byte, of which the reads and writes of these numbers fail.
+fn wire_of(
+    alloc: Global,
+    text: &str,
+    piece: usize,
+    reads: &[u32],
+    writes: &[u32],
+) -> Result<MemWire, AllocError> {
+    let mut pieces = Vec::new(alloc);
+    for _ in 0..text.len() / piece {
+        pieces.push(piece)?;
+    }
+    let source = MemSource {
+        bytes: Vec::from_slice(alloc, text.as_bytes())?,
+        pieces,
+        failing: Vec::from_slice(alloc, reads)?,
+        calls: 0,
+        faults: 0,
+    };
+    MemWire::new(alloc, source, 10_000, Vec::from_slice(alloc, writes)?)
+}
+
+/// The status of serving these wires, and what each was sent.
+fn served(
+    alloc: Global,
+    count: &str,
+    wires: Vec<MemWire>,
+    refused: &[u32],
+) -> Result<String, AllocError> {
+    let mut waiting = Vec::new(alloc);
+    for wire in wires {
+        waiting.push((wire, MOMENT))?;
+    }
+    let mut ports = MemPorts::new(alloc, waiting, Vec::from_slice(alloc, refused)?)?;
+    let mut corpus = source_of(alloc, WORKED, Vec::new(alloc))?;
+    let mut input = source_of(alloc, "unread", Vec::new(alloc))?;
+    let mut out = MemSink::new(alloc, 10, Vec::new(alloc))?;
+    let words = ["serve", count];
+    let status = status_of(alloc, &words, &mut corpus, &mut input, &mut out, &mut ports);
+    let mut text = format!(in alloc; "{status}")?;
+    for (wire, _) in ports.ended() {
+        let sent = String::from_utf8_lossy(alloc, wire.bytes())?;
+        let sent = sent.replace(alloc, "\r\n", ";")?;
+        text.push_str(" / ")?;
+        text.push_str(&sent)?;
+    }
+    Ok(text)
+}
+
+/// Asks each row of a table, with wires that come in pieces of so many bytes.
+fn expect_served(
+    rt: &impl Abort,
+    alloc: Global,
+    table: &str,
+    piece: usize,
+) -> Result<(), AllocError> {
+    for row in table.split('\n') {
+        let mut fields = Vec::new(alloc);
+        for field in row.split('|') {
+            fields.push(field)?;
+        }
+        if let [count, texts @ .., want] = fields.as_slice() {
+            let mut wires = Vec::new(alloc);
+            for text in texts {
+                let text = text.replace(alloc, ';', "\r\n")?;
+                wires.push(wire_of(alloc, &text, piece, &[], &[])?)?;
+            }
+            let given = served(alloc, count, wires, &[])?;
+            assert_eq!(rt; given.as_str(), *want, "at {row}");
+        }
+    }
+    Ok(())
+}
+
+/// Two requests on one connection, the second of which closes; one whose last byte never comes; a caller whom nobody knows,
+/// and then Ann; refusals of the head alone; a second connection; and one accept more than there are connections.
+const SERVED: &str = "\
+1|POST /query HTTP/1.1;Host: localhost;X-Search-Caller: Ann;Content-Length: 122;;<QueryPacket xmlns=\"urn:Microsoft.Search.Query\"><Query><Context><QueryText>zzz</QueryText></Context></Query></QueryPacket>POST /query HTTP/1.1;Host: localhost;X-Search-Caller: Ann;Content-Length: 122;Connection: close;;<QueryPacket xmlns=\"urn:Microsoft.Search.Query\"><Query><Context><QueryText>zzz</QueryText></Context></Query></QueryPacket>|0 / HTTP/1.1 200 OK;Content-Type: text/xml; charset=utf-8;Content-Length: 169;;<?xml version=\"1.0\" encoding=\"utf-8\"?><ResponsePacket xmlns=\"urn:Microsoft.Search.Response\"><Response><Status>ERROR_NO_RESULTS_FOUND</Status></Response></ResponsePacket>HTTP/1.1 200 OK;Content-Type: text/xml; charset=utf-8;Content-Length: 169;Connection: close;;<?xml version=\"1.0\" encoding=\"utf-8\"?><ResponsePacket xmlns=\"urn:Microsoft.Search.Response\"><Response><Status>ERROR_NO_RESULTS_FOUND</Status></Response></ResponsePacket>
+1|POST /query HTTP/1.1;Host: localhost;X-Search-Caller: Ann;Content-Length: 122;;<QueryPacket xmlns=\"urn:Microsoft.Search.Query\"><Query><Context><QueryText>zzz</QueryText></Context></Query></QueryPacket|0 / 
+1|POST /query HTTP/1.1;X-Search-Caller: Zed;Content-Length: 1;;xPOST /query HTTP/1.1;X-Search-Caller: Ann;Content-Length: 1;;x|0 / HTTP/1.1 403 Forbidden;Content-Length: 0;;HTTP/1.1 200 OK;Content-Type: text/xml; charset=utf-8;Content-Length: 215;;<?xml version=\"1.0\" encoding=\"utf-8\"?><ResponsePacket xmlns=\"urn:Microsoft.Search.Response\"><Response><Status>ERROR_BAD_REQUEST</Status><DebugErrorMessage>502 Malformed at 0</DebugErrorMessage></Response></ResponsePacket>
+1|GET /x HTTP/1.1;;GET /query HTTP/1.0;;|0 / HTTP/1.1 404 Not Found;Content-Length: 0;;HTTP/1.1 405 Method Not Allowed;Content-Length: 0;Allow: POST;Connection: close;;
+2|GET /x HTTP/1.0;;|GET /query HTTP/1.0;;|0 / HTTP/1.1 404 Not Found;Content-Length: 0;Connection: close;; / HTTP/1.1 405 Method Not Allowed;Content-Length: 0;Allow: POST;Connection: close;;
+1|GET /x HTTP/1.0;;|GET /query HTTP/1.0;;|0 / HTTP/1.1 404 Not Found;Content-Length: 0;Connection: close;;
+2|GET /x HTTP/1.0;;|6 / HTTP/1.1 404 Not Found;Content-Length: 0;Connection: close;;
+1|6";
+
+#[test]
+fn connections_are_served_one_after_the_other(rt: HostRuntime) -> Result<(), AllocError> {
+    expect_served(&rt, rt.alloc(), SERVED, 10_000)
+}
+
+#[test]
+fn pieces_of_one_byte_change_nothing(rt: HostRuntime) -> Result<(), AllocError> {
+    expect_served(&rt, rt.alloc(), SERVED, 1)
+}
+
+/// What a second connection is sent, whatever becomes of the first.
+const SECOND: &str = " / HTTP/1.1 404 Not Found;Content-Length: 0;Connection: close;;";
+
+/// What two connections are sent, of which the first asks a packet, and fails at these calls.
+fn after_a_failure(alloc: Global, reads: &[u32], writes: &[u32]) -> Result<String, AllocError> {
+    let packet = packet_of(alloc, "", "debt", "")?;
+    let length = packet.len();
+    let request = format!(in alloc; "POST /query HTTP/1.1\r\nX-Search-Caller: Ann\r\nContent-Length: {length}\r\nConnection: close\r\n\r\n{packet}")?;
+    let mut wires = Vec::new(alloc);
+    wires.push(wire_of(alloc, &request, 100, reads, writes)?)?;
+    wires.push(wire_of(alloc, "GET /x HTTP/1.0\r\n\r\n", 100, &[], &[])?)?;
+    served(alloc, "2", wires, &[])
+}
+
+#[test]
+fn a_wire_that_fails_ends_alone(rt: HostRuntime) -> Result<(), AllocError> {
+    let alloc = rt.alloc();
+    let whole = after_a_failure(alloc, &[], &[])?;
+    assert!(rt; whole.starts_with("0 / HTTP/1.1 200 OK;") && whole.ends_with(SECOND));
+    for call in 0..3 {
+        let given = after_a_failure(alloc, &[call], &[])?;
+        assert_eq!(rt; given.strip_suffix(SECOND), Some("0 / "), "read {call}");
+    }
+    for call in 0..3 {
+        let given = after_a_failure(alloc, &[], &[call])?;
+        let sent = given.strip_suffix(SECOND).unwrap_or("");
+        assert!(rt; whole.starts_with(sent) && sent.starts_with("0 / "), "write {call}");
+    }
+    Ok(())
+}
+
+#[test]
+fn an_accept_that_fails_ends_serving(rt: HostRuntime) -> Result<(), AllocError> {
+    let alloc = rt.alloc();
+    for call in 0..2 {
+        let mut wires = Vec::new(alloc);
+        for _ in 0..2 {
+            wires.push(wire_of(alloc, "GET /x HTTP/1.0\r\n\r\n", 100, &[], &[])?)?;
+        }
+        let mut want = String::from_str(alloc, "6")?;
+        for _ in 0..call {
+            want.push_str(SECOND)?;
+        }
+        assert_eq!(rt; served(alloc, "2", wires, &[call])?.as_str(), want.as_str());
+    }
+    Ok(())
+}
