@@ -1,8 +1,8 @@
 #!/usr/bin/env python3
 """Runs a command (by default the whole gate, `rt ci`) from the top of the repository, and prints the processor
 minutes that each crate took: its proof, its tests (the crate proved once more with them) and its edits. Twice a
-second it reads the processor times of the checks that run, so a check of less than half a second may be missed;
-the total below the table is that of the whole command and of all that it started, and misses nothing.
+second it reads the processor times of the checks that the command started, so a check of less than half a second
+may be missed; the total below the table is that of the whole command and of all that it started, and misses nothing.
 
     python3 docs/measure/gate.py [COMMAND ..]
 """
@@ -17,9 +17,21 @@ def words_of(pid):
         return file.read().decode(errors="replace").split("\0")
 
 
-def look(pid):
+def parent_of(pid):
+    with open(f"/proc/{pid}/stat") as file:
+        return int(file.read().rsplit(")", 1)[1].split()[1])
+
+
+def is_below(pid, top):
+    pid = int(pid)
+    while pid > 1 and pid != top:
+        pid = parent_of(pid)
+    return pid == top
+
+
+def look(pid, top):
     words = words_of(pid)
-    if "--crate-name" not in words:
+    if "--crate-name" not in words or not is_below(pid, top):
         return
     crate = words[words.index("--crate-name") + 1]
     folder = os.readlink(f"/proc/{pid}/cwd")
@@ -37,7 +49,7 @@ def main():
     while run.poll() is None:
         for pid in filter(str.isdigit, os.listdir("/proc")):
             try:
-                look(pid)
+                look(pid, run.pid)
             except (OSError, ValueError, IndexError):
                 pass
         time.sleep(0.5)

@@ -13,6 +13,8 @@ mod memory;
 #[cfg(test)]
 mod near;
 #[cfg(test)]
+mod outside;
+#[cfg(test)]
 mod packets;
 #[cfg(test)]
 mod pool;
