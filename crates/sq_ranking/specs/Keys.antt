@@ -1,5 +1,5 @@
 -- The sorts of a request and the keys of a hit, as four places of which the front ones are filled.
-use Rattle.std.specs.Prelude.{ℕ, ℤ, List, [], ◌∷◌, ◌++◌, Option, Some, None}
+use Rattle.std.specs.Prelude.{ℤ, List, [], ◌∷◌, Option, Some, None}
 use Rattle.sq_packet.specs.declared.request.Direction.{Direction}
 use Rattle.sq_ranking.specs.declared.keys.Directions.{Directions}
 use Rattle.sq_ranking.specs.declared.keys.SortKeys.{SortKeys}

@@ -13,11 +13,11 @@ pub record OrderAlike {X : Type 0} (first second : X → Ranked) (directions : L
   pub rising_second : are_rising (map (λ hit. (second hit).number) hits) ≡ true
 
 -- Rows and item numbers rise together, so a page by the one is the page by the other.
-abbrev pub AlikeOrdersGiveOnePage : Type 1
-AlikeOrdersGiveOnePage = {X : Type 0} (first second : X → Ranked) (directions : List Direction) (start count : ℕ) (hits : List X)
+abbrev pub AlikeOrdersGiveOnePage : Type 0 → Type 0
+AlikeOrdersGiveOnePage X = (first second : X → Ranked) (directions : List Direction) (start count : ℕ) (hits : List X)
     → OrderAlike first second directions hits → page_by first directions start count hits ≡ page_by second directions start count hits
 
 -- The page of what the hits are seen as is what the page's hits are seen as.
-abbrev pub PagesAreSeen : Type 1
-PagesAreSeen = {X Y : Type 0} (seen : X → Y) (ranked : Y → Ranked) (directions : List Direction) (start count : ℕ) (hits : List X)
+abbrev pub PagesAreSeen : Type 0 → Type 0 → Type 0
+PagesAreSeen X Y = (seen : X → Y) (ranked : Y → Ranked) (directions : List Direction) (start count : ℕ) (hits : List X)
     → page_by ranked directions start count (map seen hits) ≡ map seen (page_by (λ hit. ranked (seen hit)) directions start count hits)

@@ -51,6 +51,10 @@ abbrev pub distinct : List ℤ → List ℤ
 distinct [] = []
 distinct (n ∷ ns) = if has n ns then distinct ns else n ∷ distinct ns
 
+-- each number once, the least first
+abbrev pub values : List ℤ → List ℤ
+values numbers = in_order int_lt (distinct numbers)
+
 -- how many hits have the value
 abbrev pub single : List (List ℤ) → ℤ → Entry
 single hits value = Single value (length (filter (has value) hits))
@@ -77,5 +81,5 @@ buckets hits from (bound ∷ bounds) = bucket hits from (Some bound) ∷ buckets
 
 -- without bounds an entry for each value that some hit has, the least first; else one for each bucket
 abbrev pub entries : List ℤ → List (List ℤ) → List Entry
-entries [] hits = map (single hits) (in_order int_lt (distinct (flat_map (λ numbers. numbers) hits)))
+entries [] hits = map (single hits) (values (flat_map (λ numbers. numbers) hits))
 entries (bound ∷ bounds) hits = buckets hits None (bound ∷ bounds)

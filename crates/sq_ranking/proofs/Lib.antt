@@ -1,0 +1,7 @@
+pub mod MemberLemmas
+pub mod SortedLemmas
+pub mod OrderLemmas
+pub mod PageLemmas
+pub mod ValuesLemmas
+pub mod CountLemmas
+pub mod Examples

@@ -1,0 +1,7 @@
+mod ItemLemmas
+mod OpeningLemmas
+mod PlainLemmas
+mod QuestionLemmas
+mod SchemaLemmas
+mod ValidLemmas
+mod WorkedExamples
