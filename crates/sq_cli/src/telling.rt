@@ -8,6 +8,7 @@ use sq_service::{Service, Services};
 use std::alloc::{AllocError, Global};
 
 /// Loads services, and where it does so aloud it says on standard error how many items one holds.
+#[derive(Drop)]
 pub struct Telling<'a> {
     rt: &'a HostRuntime,
     aloud: bool,

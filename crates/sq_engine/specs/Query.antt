@@ -1,5 +1,5 @@
 -- Queries of both languages, typed for a schema and a moment, their meaning, and the tree by which they are answered.
-use Rattle.std.specs.Prelude.{◌≡◌, ℕ, Bool, true, false, if◌then◌else◌, List, ℤ, Result, Ok, Err}
+use Rattle.std.specs.Prelude.{◌≡◌, ℕ, Bool, true, if◌then◌else◌, List, ℤ, Result, Ok, Err}
 use Rattle.std.specs.List.{list_all}
 use Rattle.sq_base.specs.declared.faults.Fault.{Fault}
 use Rattle.sq_base.specs.declared.faults.Fault.TheVariants as fault

@@ -38,10 +38,7 @@ pub enum LoadFault {
     TooLong,
     /// The first faulty line, counted from 1, and its code.
     #[error("corpus fault {code} line {line}")]
-    Corpus {
-        code: u16,
-        line: u32,
-    },
+    Corpus { code: u16, line: u32 },
     #[error("out of memory")]
     NoMemory,
 }

@@ -2,6 +2,7 @@
 
 use sq_base::QueryFault;
 use sq_packet::{Direction, Language, PacketFault, read_packet};
+use sq_packet_writer::write_packet;
 use std::alloc::{AllocError, Global};
 use std::test::Fail;
 
@@ -228,5 +229,36 @@ fn a_packet_says_all_of_a_request(rt: HostRuntime) -> Result<(), Fail> {
             assert!(rt; request.refiners.len() == 1 && request.sorts.len() == 1);
         }
     }
+    Ok(())
+}
+
+/// The same request as it is written.
+const REWRITTEN: &str = "<QueryPacket xmlns=\"urn:Microsoft.Search.Query\"><Query><Context><QueryText type=\"FQL\"> a&lt;A </QueryText></Context>\
+<Range><StartAt>2</StartAt><Count>5</Count></Range><Refiners><Refiner>size(discretize=manual/-6/7)</Refiner></Refiners>\
+<SortByProperties><SortByProperty name=\"Rank\" direction=\"Descending\"/></SortByProperties>\
+<ImplicitAndBehavior>false</ImplicitAndBehavior></Query></QueryPacket>";
+
+/// The packet of SharePoint's client as it is written.
+const PLAIN: &str = "<QueryPacket xmlns=\"urn:Microsoft.Search.Query\"><Query><Context><QueryText type=\"STRING\">debt</QueryText></Context>\
+<Range><StartAt>1</StartAt><Count>10</Count></Range><Properties><Property name=\"Title\"/></Properties></Query></QueryPacket>";
+
+/// Whether a packet is read as a request that is written so.
+fn is_rewritten(alloc: Global, packet: &str, wanted: &str) -> Result<bool, AllocError> {
+    if packet.len() > 131_072 {
+        return Ok(false);
+    }
+    match read_packet(alloc, packet.as_bytes()) {
+        Err(_) => Ok(false),
+        Ok(request) => Ok(write_packet(alloc, &request)?.as_slice() == wanted.as_bytes()),
+    }
+}
+
+#[test]
+fn a_request_is_written_as_a_packet_and_read_again(rt: HostRuntime) -> Result<(), Fail> {
+    let alloc = rt.alloc();
+    assert!(rt; is_rewritten(alloc, FULL, REWRITTEN)?);
+    assert!(rt; is_rewritten(alloc, REWRITTEN, REWRITTEN)?);
+    assert!(rt; is_rewritten(alloc, WORKED, PLAIN)?);
+    assert!(rt; is_rewritten(alloc, PLAIN, PLAIN)?);
     Ok(())
 }

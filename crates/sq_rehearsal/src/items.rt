@@ -1,5 +1,5 @@
 //! The items of the corpus, each made from its number.
-ghost use Rattle.std.specs.Prelude.{◌≡◌, ◌≤◌, ◌++◌, ◌∷◌, [], ◌<◌, ℕ, decimal, IfOk};
+ghost use Rattle.std.specs.Prelude.{◌≡◌, ◌≤◌, ◌++◌, ◌∷◌, [], ℕ, decimal, IfOk};
 ghost use Rattle.sq_rehearsal.specs.Rehearsal as spec;
 
 use sq_base::{List, Text};

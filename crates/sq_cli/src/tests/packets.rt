@@ -106,13 +106,13 @@ Ann||report|<Properties><Property name='size'/><Property name='public'/></Proper
 const REFUSED: &str = "\
 Zed||debt AND|<Query/>|1 ERROR_BAD_REQUEST 511 UnknownCaller at 0
 Ann||debt AND|<Refiners><Refiner>author</Refiner></Refiners>|1 ERROR_BAD_QUERY 104 MissingOperand at 8
-Ann|  type='MSSQLFT'|debt||1 ERROR_BAD_REQUEST 507 UnsupportedType at 86
-Ann||debt|<Range><Count>0</Count></Range>|1 ERROR_BAD_REQUEST 508 BadRange at 105
+Ann|  type='MSSQLFT'|debt||1 ERROR_BAD_REQUEST 507 UnsupportedType at 82
+Ann||debt|<Range><Count>0</Count></Range>|1 ERROR_BAD_REQUEST 508 BadRange at 101
 Ann||debt|<Refiners><Refiner>size</Refiner><Refiner>author</Refiner><Refiner>colour</Refiner></Refiners><SortByProperties><SortByProperty name='title'/></SortByProperties>|1 ERROR_BAD_REQUEST 509 UnknownRefiner at 1
 Ann||debt|<SortByProperties><SortByProperty name='title'/></SortByProperties>|1 ERROR_BAD_REQUEST 516 UnknownSort at 0
 Ann||debt|<SortByProperties><SortByProperty name='Rank'/><SortByProperty name='public'/><SortByProperty name='colour'/></SortByProperties>|1 ERROR_BAD_REQUEST 516 UnknownSort at 1
 Ann||nothing|<SortByProperties><SortByProperty name='title'/></SortByProperties>|1 ERROR_BAD_REQUEST 516 UnknownSort at 0
-Ann||debt|<SortByProperties><SortByProperty name='size' direction='Up'/></SortByProperties>|1 ERROR_BAD_REQUEST 514 BadDirection at 166
+Ann||debt|<SortByProperties><SortByProperty name='size' direction='Up'/></SortByProperties>|1 ERROR_BAD_REQUEST 514 BadDirection at 158
 Ann| type='FQL'|near(a,and(b,c))||1 ERROR_BAD_QUERY 308 NotInProximity at 7";
 
 /// The worked packet of the documents, as a client sends it, and its response byte for byte.

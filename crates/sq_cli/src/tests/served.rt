@@ -12,12 +12,12 @@ use std::process::Abort;
 fn wire_of(
     alloc: Global,
     text: &str,
-    piece: usize,
+    piece: u32,
     reads: &[u32],
     writes: &[u32],
 ) -> Result<MemWire, AllocError> {
     let mut pieces = Vec::new(alloc);
-    for _ in 0..text.len() / piece {
+    for _ in 0..text.len() {
         pieces.push(piece)?;
     }
     let source = MemSource {
@@ -62,7 +62,7 @@ fn expect_served(
     rt: &impl Abort,
     alloc: Global,
     table: &str,
-    piece: usize,
+    piece: u32,
 ) -> Result<(), AllocError> {
     for row in table.split('\n') {
         let mut fields = Vec::new(alloc);
@@ -87,7 +87,7 @@ fn expect_served(
 const SERVED: &str = "\
 1|POST /query HTTP/1.1;Host: localhost;X-Search-Caller: Ann;Content-Length: 122;;<QueryPacket xmlns=\"urn:Microsoft.Search.Query\"><Query><Context><QueryText>zzz</QueryText></Context></Query></QueryPacket>POST /query HTTP/1.1;Host: localhost;X-Search-Caller: Ann;Content-Length: 122;Connection: close;;<QueryPacket xmlns=\"urn:Microsoft.Search.Query\"><Query><Context><QueryText>zzz</QueryText></Context></Query></QueryPacket>|0 / HTTP/1.1 200 OK;Content-Type: text/xml; charset=utf-8;Content-Length: 169;;<?xml version=\"1.0\" encoding=\"utf-8\"?><ResponsePacket xmlns=\"urn:Microsoft.Search.Response\"><Response><Status>ERROR_NO_RESULTS_FOUND</Status></Response></ResponsePacket>HTTP/1.1 200 OK;Content-Type: text/xml; charset=utf-8;Content-Length: 169;Connection: close;;<?xml version=\"1.0\" encoding=\"utf-8\"?><ResponsePacket xmlns=\"urn:Microsoft.Search.Response\"><Response><Status>ERROR_NO_RESULTS_FOUND</Status></Response></ResponsePacket>
 1|POST /query HTTP/1.1;Host: localhost;X-Search-Caller: Ann;Content-Length: 122;;<QueryPacket xmlns=\"urn:Microsoft.Search.Query\"><Query><Context><QueryText>zzz</QueryText></Context></Query></QueryPacket|0 / 
-1|POST /query HTTP/1.1;X-Search-Caller: Zed;Content-Length: 1;;xPOST /query HTTP/1.1;X-Search-Caller: Ann;Content-Length: 1;;x|0 / HTTP/1.1 403 Forbidden;Content-Length: 0;;HTTP/1.1 200 OK;Content-Type: text/xml; charset=utf-8;Content-Length: 215;;<?xml version=\"1.0\" encoding=\"utf-8\"?><ResponsePacket xmlns=\"urn:Microsoft.Search.Response\"><Response><Status>ERROR_BAD_REQUEST</Status><DebugErrorMessage>502 Malformed at 0</DebugErrorMessage></Response></ResponsePacket>
+1|POST /query HTTP/1.1;X-Search-Caller: Zed;Content-Length: 1;;xPOST /query HTTP/1.1;X-Search-Caller: Ann;Content-Length: 1;;x|0 / HTTP/1.1 403 Forbidden;Content-Length: 0;;HTTP/1.1 200 OK;Content-Type: text/xml; charset=utf-8;Content-Length: 221;;<?xml version=\"1.0\" encoding=\"utf-8\"?><ResponsePacket xmlns=\"urn:Microsoft.Search.Response\"><Response><Status>ERROR_BAD_REQUEST</Status><DebugErrorMessage>502 Malformed at 0</DebugErrorMessage></Response></ResponsePacket>
 1|GET /x HTTP/1.1;;GET /query HTTP/1.0;;|0 / HTTP/1.1 404 Not Found;Content-Length: 0;;HTTP/1.1 405 Method Not Allowed;Content-Length: 0;Allow: POST;Connection: close;;
 2|GET /x HTTP/1.0;;|GET /query HTTP/1.0;;|0 / HTTP/1.1 404 Not Found;Content-Length: 0;Connection: close;; / HTTP/1.1 405 Method Not Allowed;Content-Length: 0;Allow: POST;Connection: close;;
 1|GET /x HTTP/1.0;;|GET /query HTTP/1.0;;|0 / HTTP/1.1 404 Not Found;Content-Length: 0;Connection: close;;

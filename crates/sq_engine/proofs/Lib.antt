@@ -1,0 +1,4 @@
+mod Examples
+mod LeakLemmas
+mod QueryLemmas
+mod VerdictLemmas

@@ -1,0 +1,16 @@
+mod AttributeLemmas
+mod BackLemmas
+mod ElementLemmas
+mod EscapedLemmas
+mod Examples
+mod GivenLemmas
+mod GivenRefinerLemmas
+mod LetterLemmas
+mod ListLemmas
+mod ReadsLemmas
+mod TagLemmas
+mod TextLemmas
+mod TrimLemmas
+mod Utf8Lemmas
+mod ValueLemmas
+mod WritableLemmas
