@@ -27,6 +27,27 @@ impl Model for Lists {
     ghost invariant = { λ lists. AreCoded lists.pool lists.chains.items };
 }
 
+/// How many postings a list has, by the second words of its blocks.
+fn postings_of(lists: &Lists, list: usize) -> u64
+    requires known { list < length lists.now }
+    requires short { length (coded (slice_index_or lists.now list [])) < 2 ^ 32 }
+    requires few { length (slice_index_or lists.now list []) < 2 ^ 40 }
+    requires rises { is_list (slice_index_or lists.now list []) ≡ true }
+    ensures { result ≡ length (slice_index_or lists.now list []) }
+{
+    let mut number = 0;
+    let mut place = 0;
+    while let Some(_last) = lists.read(list, place) {
+        let size = match lists.read(list, place + 1) {
+            Some(size) => size,
+            None => unreachable!(),
+        };
+        number += (size / 65_536) as u64;
+        place += 2 + size % 65_536;
+    }
+    number
+}
+
 impl Lists {
     /// No lists.
     pub fn new(alloc: Global) -> Lists
@@ -43,6 +64,16 @@ impl Lists {
         ensures { result ≡ length self.now }
     {
         self.chains.len()
+    }
+
+    /// How many postings a list has. None is decoded, and no step is counted.
+    pub fn count(&self, list: usize) -> u64
+        requires { list < length self.now }
+        ensures value { result ≡ length (slice_index_or self.now list []) }
+        ensures few { result < 2 ^ 40 }
+    {
+        self.tells(list);
+        postings_of(self, list)
     }
 
     /// A word of the code of a list, `None` exactly past its end.

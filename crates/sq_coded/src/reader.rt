@@ -78,6 +78,7 @@ impl<'a> Reader<'a> {
     pub fn new<L: Ledger>(lists: &'a Lists, list: usize, steps: &mut Steps<L>) -> Reader<'a>
         requires { list < length lists.now }
         ensures left { result ≡ slice_index_or lists.now list [] }
+        ensures rises { is_list result ≡ true }
         ensures counted { steps.new ≡ steps.old + first_count result }
         ensures cost { steps.new + count_behind result ≡ steps.old + length result }
     {

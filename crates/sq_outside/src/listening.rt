@@ -108,7 +108,8 @@ impl<'a> Ports for Listening<'a> {
     }
 
     /// The connection is closed.
-    fn done(&mut self, wire: Stream, how: Ended) {
+    fn done(&mut self, wire: Stream, _how: Ended) {
         self.out -= 1;
+        wire.close();
     }
 }

@@ -3,7 +3,18 @@ ghost use Rattle.std.specs.Prelude.{None};
 
 use sq_base::{Failed, Wire};
 use std::io::{Read, Write};
-use std::net::TcpStream;
+use std::net::{Shutdown, TcpStream};
+use std::time::Duration;
+
+/// How many seconds a read or a write waits for a peer that does nothing. Connections are served one after the other,
+/// so a silent peer keeps the next one waiting for as long.
+const PATIENCE: u64 = 30;
+
+/// How many milliseconds a read waits while a connection is closed.
+const FAREWELL: u64 = 200;
+
+/// How many pieces of 4,096 bytes are read at most while a connection is closed.
+const LEFTOVERS: u32 = 256;
 
 /// A TCP connection as a wire, which tells nothing of its bytes. It is closed where it is dropped.
 #[derive(Drop)]
@@ -15,13 +26,34 @@ pub struct Stream {
 
 impl Stream {
     /// A wire over this connection. What is written is sent at once, for a reply is complete when it is
-    /// written; a system that can't do so sends it a little later.
+    /// written; a system that can't do so sends it a little later. A read or a write fails where the peer
+    /// does nothing for 30 seconds.
     pub fn new(inner: TcpStream) -> Stream {
         let _ = inner.set_nodelay(true);
+        let _ = inner.set_read_timeout(Some(Duration::from_secs(PATIENCE)));
+        let _ = inner.set_write_timeout(Some(Duration::from_secs(PATIENCE)));
         Stream {
             inner,
             read_faults: 0,
             write_faults: 0,
+        }
+    }
+}
+
+impl Stream {
+    /// Closes the connection. What the peer still sends is read and let go for a moment, since a connection
+    /// that is closed with bytes unread is reset by some systems, and the peer may then lose the last reply.
+    pub(crate) fn close(mut self) {
+        let _ = self.inner.shutdown(Shutdown::Write);
+        let _ = self
+            .inner
+            .set_read_timeout(Some(Duration::from_millis(FAREWELL)));
+        let mut piece = [0u8; 4096];
+        for _ in 0..LEFTOVERS {
+            match self.inner.read(&mut piece) {
+                Ok(count) if count > 0 => {}
+                _ => return,
+            }
         }
     }
 }

@@ -1,0 +1,7 @@
+mod CountLemmas
+mod FoundLemmas
+mod IndexLemmas
+mod OrderLemmas
+mod PostLemmas
+mod RisingLemmas
+mod ValueLemmas

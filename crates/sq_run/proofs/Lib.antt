@@ -1,0 +1,6 @@
+mod CompleteLemmas
+mod CountLemmas
+mod Examples
+mod KnownLemmas
+mod LeakLemmas
+mod ServeLemmas

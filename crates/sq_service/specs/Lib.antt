@@ -1,0 +1,5 @@
+pub mod Hits
+pub mod Page
+pub mod Rows
+pub mod Sorts
+pub mod Unknown

@@ -1,0 +1,6 @@
+pub mod TextLemmas
+pub mod GrownLemmas
+pub mod ItemLemmas
+pub mod RunLemmas
+pub mod RowLemmas
+pub mod ReadLemmas
