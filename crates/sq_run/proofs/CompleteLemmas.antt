@@ -1,23 +1,20 @@
 -- Nothing is refused of what is good.
-use Rattle.std.proofs.Common.{◌≡◌, ℕ, ℤ, ◌≤◌, Bool, true, List, [], ◌∷◌, length, Option, Some, None, is_some, Ok, refl, sym, ap, ◌∙◌, arith}
-use Rattle.std.specs.Prelude.{nat_le, codes}
+use Rattle.std.proofs.Common.{◌≡◌, ℕ, ℤ, ◌≤◌, true, List, [], ◌∷◌, length, is_some, refl, ap, arith}
+use Rattle.std.specs.Prelude.{nat_le}
 use Rattle.std.proofs.lemmas.Bool.Decides.{nat_tests}
-use Rattle.sq_schema.specs.Intervals.{clamped}
 use Rattle.sq_model.specs.declared.corpus.Caller.{Caller}
 use Rattle.sq_model.specs.declared.corpus.Corpus.{Corpus}
 use Rattle.sq_model.specs.Limits.{most_corpus_bytes}
 use Rattle.sq_packet.specs.declared.request.Direction.{Direction}
 use Rattle.sq_packet.specs.declared.request.Request.{Request}
 use Rattle.sq_response.specs.declared.response.Found.{Found}
-use Rattle.sq_response.specs.Response.{response_text}
 use Rattle.sq_engine.specs.Answer.{SortKey}
 use Rattle.sq_engine.specs.Query.{Query, lowered_of}
-use Rattle.sq_engine.specs.Verdict.{Verdict, verdict, knows, said, unless_empty}
-use Rattle.sq_run.specs.Command.{order_of}
+use Rattle.sq_engine.specs.Verdict.{verdict, knows, said, unless_empty}
 use Rattle.sq_run.specs.Complete.{IsGood, PacketsAreAnswered, TextsAreAnswered, TextsAreLowered, RequestsAreAnswered, answer_of}
 use Rattle.sq_run.specs.Desk.{desk_response, response_of}
-use Rattle.sq_run.specs.Output.{output, order_outcome, loaded}
-use Rattle.sq_run.specs.Replies.{answer_outcome, most_packet_bytes, packet_outcome, response_outcome, status_of, work_outcome, request_of}
+use Rattle.sq_run.specs.Output.{order_outcome, loaded}
+use Rattle.sq_run.specs.Replies.{answer_outcome, most_packet_bytes, packet_outcome, status_of, work_outcome}
 
 short_corpus : (n : ℕ) → n ≤ most_corpus_bytes → nat_le n most_corpus_bytes ≡ true
 short_corpus n h = grind (arith, nat_tests)

@@ -1,5 +1,5 @@
 -- Words and what they write, by evaluation.
-use Rattle.std.proofs.Common.{◌≡◌, ℕ, ℤ, pos, List, [], ◌∷◌, ◌++◌, Option, Some, None, refl}
+use Rattle.std.proofs.Common.{◌≡◌, ℕ, pos, List, [], ◌∷◌, Some, None, refl}
 use Rattle.std.specs.Prelude.{codes}
 use Rattle.std.specs.Fmt.{digits}
 use Rattle.sq_model.specs.declared.corpus.Corpus.{Corpus}
@@ -11,6 +11,7 @@ use Rattle.sq_base.specs.Xml.{is_xml_char}
 use Rattle.sq_corpus.specs.CorpusText.{at_end, corpus_of}
 use Rattle.sq_corpus.specs.Lines.{with_known, with_fields, with_line}
 use Rattle.sq_corpus.specs.Words.{line_kind}
+use Rattle.sq_rehearsal.specs.Questions.{questions, questions_of}
 use Rattle.sq_run.specs.Command.{Working, Serving, Asking, order_of}
 use Rattle.sq_run.specs.Output.{output, order_outcome, loaded}
 use Rattle.sq_run.specs.Replies.{work_outcome}
@@ -49,7 +50,7 @@ rehearsed : output nothing_said (codes "rehearse" ∷ (codes "7" ∷ [])) (pos 0
   status = 0;
   text = codes "reader 1 total 0\nreader 2 total 0\nreader 3 total 0\nreader 4 total 0\nreader 5 total 0\nreader 6 total 0\nchief 1 total 0\nchief 2 total 0\nchief 3 total 0\nchief 4 total 0\nchief 5 total 0\nchief 6 total 0\n";
 })
-unfolding order_outcome question_line digits
+unfolding order_outcome question_line questions questions_of digits
 rehearsed = refl
 
 -- words that are no command need no corpus

@@ -1,14 +1,13 @@
 -- Replies to callers to whom corpora look the same.
-use Rattle.std.proofs.Common.{◌≡◌, ℕ, ℤ, List, Ok, Err, Option, Some, None, is_some, if◌then◌else◌, refl, ap, ◌∙◌}
+use Rattle.std.proofs.Common.{◌≡◌, ℕ, ℤ, List, Ok, Err, is_some, refl, ap}
 use Rattle.sq_base.specs.Outcome.{Outcome}
 use Rattle.sq_model.specs.declared.corpus.Corpus.{Corpus}
 use Rattle.sq_packet.specs.Packet.{packet_of}
 use Rattle.sq_packet.specs.declared.request.Request.{Request}
-use Rattle.sq_response.specs.Response.{response_text}
 use Rattle.sq_schema.specs.Intervals.{clamped}
 use Rattle.sq_engine.specs.Leak.{LooksSame, NothingLeaks}
 use Rattle.sq_engine.specs.Verdict.{verdict, knows}
-use Rattle.sq_run.specs.Desk.{desk_reply, desk_response, packet_response, response_of}
+use Rattle.sq_run.specs.Desk.{desk_response, packet_response, response_of}
 use Rattle.sq_run.specs.Leak.{NoReplyLeaks}
 
 same_packet : NothingLeaks → (a b : Corpus) (name : List ℕ) (moment : ℤ) (read : Outcome Request) → LooksSame name a b

@@ -1,5 +1,5 @@
 -- Whoever is known and asks what nothing is refused of is answered.
-use Rattle.std.specs.Prelude.{◌≡◌, ℕ, ℤ, ◌≤◌, Bool, List, [], ◌∷◌, ◌++◌, length, codes, Option, Some, None, Ok}
+use Rattle.std.specs.Prelude.{◌≡◌, ℕ, ℤ, ◌≤◌, Bool, List, [], ◌∷◌, ◌++◌, length, codes, Some, None, Ok}
 use Rattle.std.specs.List.{find}
 use Rattle.sq_schema.specs.Intervals.{clamped}
 use Rattle.sq_model.specs.declared.corpus.Caller.{Caller}

@@ -1,5 +1,5 @@
 -- What the desk replies, by what an engine says.
-use Rattle.std.specs.Prelude.{ℕ, ℤ, Bool, if◌then◌else◌, List, [], ◌++◌, flat_map, encode_utf8, Option, Some, None, Result, Ok, Err}
+use Rattle.std.specs.Prelude.{ℕ, ℤ, Bool, if◌then◌else◌, List, Option, Some, None, Ok, Err}
 use Rattle.sq_base.specs.Outcome.{Outcome}
 use Rattle.sq_base.specs.declared.faults.QueryFault.{QueryFault}
 use Rattle.sq_packet.specs.declared.request.Request.{Request}

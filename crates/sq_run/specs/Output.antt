@@ -10,7 +10,6 @@ use Rattle.sq_engine.specs.declared.engine.Engine.{Ghosts}
 use Rattle.sq_run.specs.Command.{Order, Working, Serving, Rehearsing, order_of}
 use Rattle.sq_run.specs.Rehearsing.{rehearsal_outcome}
 use Rattle.sq_run.specs.Replies.{Outcome, Known, known_of, known_by, IsReply, corpus_fault_text, too_long, work_outcome}
-use Rattle.sq_run.specs.declared.reply.Reply.{Reply}
 use Rattle.sq_run.specs.declared.load.Unloaded.{Unloaded}
 use Rattle.sq_run.specs.declared.load.Unloaded.TheVariants as unloaded
 

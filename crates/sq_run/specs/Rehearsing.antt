@@ -1,7 +1,6 @@
 -- What a rehearsal writes: a line for each question that its corpus is asked.
 use Rattle.std.specs.Prelude.{◌≡◌, ℕ, ℤ, List, [], ◌∷◌, ◌++◌, flat_map, codes, Result}
 use Rattle.std.specs.Fmt.{decimal, signed_decimal}
-use Rattle.sq_response.specs.declared.response.Found.{Found}
 use Rattle.sq_response.specs.declared.response.Hit.{Hit}
 use Rattle.sq_response.specs.declared.response.Response.{Response}
 use Rattle.sq_engine.specs.Verdict.{Verdict, Unknown, Faulty, NoRefiner, NoSort, Nothing, Shows, Says}

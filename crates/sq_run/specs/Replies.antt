@@ -1,5 +1,5 @@
 -- What is written to whoever asks, by what is known of a corpus.
-use Rattle.std.specs.Prelude.{◌≡◌, ◌<◌, ℕ, ℤ, Bool, true, Vec, IfSome, if◌then◌else◌, nat_le, List, [], ◌∷◌, ◌++◌, flat_map, length, Option, Some, None, option_map, Result, Ok, Err, codes}
+use Rattle.std.specs.Prelude.{◌≡◌, ◌<◌, ℕ, ℤ, Bool, true, Vec, IfSome, if◌then◌else◌, nat_le, List, [], ◌∷◌, ◌++◌, flat_map, length, Option, Some, option_map, Result, Ok, Err, codes}
 use Rattle.std.specs.Fmt.{decimal, signed_decimal}
 use Rattle.std.specs.Global.{Global}
 use Rattle.sq_base.specs.declared.faults.ReadAll.{ReadAll}

@@ -1,4 +1,4 @@
-use Rattle.std.proofs.Common.{rules, ◌≡◌, ◌≤◌, ◌<◌, ◌^◌, length, get_or, arith}
+use Rattle.std.proofs.Common.{rules, ◌≤◌, ◌<◌, ◌^◌, length, get_or, arith}
 use Rattle.std.proofs.lemmas.Bool.Decides.{nat_tests}
 use Rattle.sq_run.proofs.CountLemmas.{number_read, nothing_read}
 use Rattle.sq_run.proofs.command.count_to.Goals as goal

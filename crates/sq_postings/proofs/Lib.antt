@@ -1,7 +1,0 @@
-mod CountLemmas
-mod FoundLemmas
-mod IndexLemmas
-mod OrderLemmas
-mod PostLemmas
-mod RisingLemmas
-mod ValueLemmas

@@ -1,5 +1,0 @@
-use Rattle.sq_postings.proofs.PostLemmas.{entries_of_list}
-use Rattle.sq_postings.proofs.posts.PostCursor.new.Goals as goal
-
-pub invariant_of-result : goal.invariant_of-result
-invariant_of-result c = record { entries = entries_of_list c.args.property c.args.reader c.requires.few c.requires.list }
