@@ -1,6 +1,5 @@
 //! What makes services.
 ghost use Rattle.std.specs.Prelude.{◌≡◌, IfOk};
-ghost use Rattle.sq_model.specs.Valid.{IsValid};
 
 use crate::service::Service;
 use sq_base::{ReadAll, Source, read_all};

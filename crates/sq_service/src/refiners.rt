@@ -1,5 +1,5 @@
 //! The refiners of a request.
-ghost use Rattle.std.specs.Prelude.{◌≡◌, ◌≤◌, length, map, IfOk, option_copied};
+ghost use Rattle.std.specs.Prelude.{◌≡◌, ◌≤◌, length, map, IfOk};
 ghost use Rattle.sq_engine.specs.Verdict as verdict;
 ghost use Rattle.sq_service.specs.Page as spec;
 

@@ -1,7 +1,6 @@
 //! The properties that are asked for.
-ghost use Rattle.std.specs.Prelude.{◌≡◌, ◌==◌, [], IfOk, OnOk, ◌++◌, option_to_list, position};
+ghost use Rattle.std.specs.Prelude.{◌≡◌, ◌==◌, [], IfOk, OnOk, ◌++◌};
 ghost use Rattle.std.specs.List.{list_any};
-ghost use Rattle.sq_schema.specs.Properties.{has_name};
 ghost use Rattle.sq_engine.specs.Answer as answer;
 ghost use Rattle.sq_service.specs.Rows.{new_row};
 

@@ -1,10 +1,6 @@
 //! The service.
-ghost use Rattle.std.specs.Prelude.{◌≡◌, ◌+◌, ◌≤◌, length};
-ghost use Rattle.sq_schema.specs.Intervals.{clamped};
+ghost use Rattle.std.specs.Prelude.{◌≡◌};
 ghost use Rattle.sq_model.specs.Valid.{IsValid};
-ghost use Rattle.sq_packet.specs.Asked.{IsAsked};
-ghost use Rattle.sq_engine.specs.Answers.{Answers};
-ghost use Rattle.sq_engine.specs.Verdict as verdict;
 
 use crate::answer::answer;
 use crate::callers::caller_named;
