@@ -1,4 +1,5 @@
 pub mod Kept
+pub mod Laws
 pub mod Runs
 pub mod Shown
 pub mod Stored

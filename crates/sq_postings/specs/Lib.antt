@@ -1,0 +1,9 @@
+pub mod Cost
+pub mod Indexed
+pub mod Kept
+pub mod Laws
+pub mod Left
+pub mod Occurrences
+pub mod Rising
+pub mod Searched
+pub mod StandsFor
