@@ -14,7 +14,8 @@ use Rattle.sq_model.specs.declared.corpus.Item.{Item}
 use Rattle.sq_model.specs.declared.corpus.Corpus.{Corpus}
 use Rattle.sq_coded.specs.declared.posting.Posting.{Posting}
 use Rattle.sq_postings.specs.Cost.{passage_count, posting_count}
-use Rattle.sq_postings.specs.Indexed.{Indexed, TermList, token_fits, is_list_of, list_at, list_of, AreListsOf}
+use Rattle.sq_tokens.specs.Pattern.{is_token_asked}
+use Rattle.sq_postings.specs.Indexed.{Indexed, TermList, is_list_of, list_at, list_of, AreListsOf}
 use Rattle.sq_postings.specs.Laws.{lists_between, list_length, list_postings, ListsAreWithinCount, ListsHavePostings}
 use Rattle.sq_postings.specs.Occurrences.{places_from, posting, passage_postings, postings_from, postings_of}
 use Rattle.sq_postings.specs.Rising.{rises, text_before, token_before, term_before}
@@ -75,21 +76,21 @@ at_most_one text (t ∷ ts) h = by (bytes_eq text t) refl (at_most_one text ts (
     by true e more = let one : is_text text t ≡ 1 = ap one_if e in omega (arith, sum_by-cons (is_text text) t ts, one, none_behind text t ts e h)
     by false e more = let none : is_text text t ≡ 0 = ap one_if e in omega (arith, sum_by-cons (is_text text) t ts, none, more)
 
-none_fits : (prefixed : Bool) (wanted text : List ℕ) (ts : List (List ℕ)) → token_fits prefixed wanted text ≡ false → list_all (token_fits prefixed wanted) ts ≡ true → sum_by (is_text text) ts ≤ 0
+none_fits : (prefixed : Bool) (wanted text : List ℕ) (ts : List (List ℕ)) → is_token_asked prefixed wanted text ≡ false → list_all (is_token_asked prefixed wanted) ts ≡ true → sum_by (is_text text) ts ≤ 0
 none_fits prefixed wanted text [] other all = omega arith
 none_fits prefixed wanted text (t ∷ ts) other all =
-    omega (arith, sum_by-cons (is_text text) t ts, differs (bytes_eq text t) refl, none_fits prefixed wanted text ts other (and_right (token_fits prefixed wanted t) (list_all (token_fits prefixed wanted) ts) all))
+    omega (arith, sum_by-cons (is_text text) t ts, differs (bytes_eq text t) refl, none_fits prefixed wanted text ts other (and_right (is_token_asked prefixed wanted t) (list_all (is_token_asked prefixed wanted) ts) all))
   where
     differs : (b : Bool) → bytes_eq text t ≡ b → is_text text t ≡ 0
     differs false e = ap one_if e
-    differs true e = absurd (not_both (token_fits prefixed wanted text)
-        (ap (token_fits prefixed wanted) (same_text text t e) ∙ and_left (token_fits prefixed wanted t) (list_all (token_fits prefixed wanted) ts) all) other)
+    differs true e = absurd (not_both (is_token_asked prefixed wanted text)
+        (ap (is_token_asked prefixed wanted) (same_text text t e) ∙ and_left (is_token_asked prefixed wanted t) (list_all (is_token_asked prefixed wanted) ts) all) other)
 
-one_token : (prefixed : Bool) (wanted text : List ℕ) (ts : List (List ℕ)) → rises text_before ts ≡ true → list_all (token_fits prefixed wanted) ts ≡ true
-    → sum_by (is_text text) ts ≤ one_if (token_fits prefixed wanted text)
-one_token prefixed wanted text ts up all = by (token_fits prefixed wanted text) refl
+one_token : (prefixed : Bool) (wanted text : List ℕ) (ts : List (List ℕ)) → rises text_before ts ≡ true → list_all (is_token_asked prefixed wanted) ts ≡ true
+    → sum_by (is_text text) ts ≤ one_if (is_token_asked prefixed wanted text)
+one_token prefixed wanted text ts up all = by (is_token_asked prefixed wanted text) refl
   where
-    by : (b : Bool) → token_fits prefixed wanted text ≡ b → sum_by (is_text text) ts ≤ one_if b
+    by : (b : Bool) → is_token_asked prefixed wanted text ≡ b → sum_by (is_text text) ts ≤ one_if b
     by true e = at_most_one text ts up
     by false e = none_fits prefixed wanted text ts e all
 
@@ -113,11 +114,11 @@ first_place token tokens t = by (bytes_eq (token_text token) t)
     by true = let same = places_long 0 t tokens in omega (arith, same)
     by false = let same = places_long 0 t tokens in omega (arith, same)
 
-first_wanted : (prefixed : Bool) (wanted : List ℕ) (token : Token) (tokens : Passage) → passage_count prefixed wanted (token ∷ tokens) ≡ one_if (token_fits prefixed wanted (token_text token)) + passage_count prefixed wanted tokens
-first_wanted prefixed wanted token tokens = by (token_fits prefixed wanted (token_text token))
+first_wanted : (prefixed : Bool) (wanted : List ℕ) (token : Token) (tokens : Passage) → passage_count prefixed wanted (token ∷ tokens) ≡ one_if (is_token_asked prefixed wanted (token_text token)) + passage_count prefixed wanted tokens
+first_wanted prefixed wanted token tokens = by (is_token_asked prefixed wanted (token_text token))
   where
     rest : Passage
-    rest = filter (λ (x : Token). token_fits prefixed wanted (token_text x)) tokens
+    rest = filter (λ (x : Token). is_token_asked prefixed wanted (token_text x)) tokens
 
     by : (b : Bool) → length (cond b (token ∷ rest) rest) ≡ one_if b + length rest
     by true = omega arith
@@ -140,7 +141,7 @@ first_item row property item items t = length-append (passage_postings row 0 t (
 abbrev item_count : Bool → List ℕ → ℕ → Item → ℕ
 item_count prefixed wanted property item = sum_by (passage_count prefixed wanted) (passages item.values property)
 
-module _ (prefixed : Bool) (wanted : List ℕ) (ts : List (List ℕ)) (up : rises text_before ts ≡ true) (all : list_all (token_fits prefixed wanted) ts ≡ true) where
+module _ (prefixed : Bool) (wanted : List ℕ) (ts : List (List ℕ)) (up : rises text_before ts ≡ true) (all : list_all (is_token_asked prefixed wanted) ts ≡ true) where
   in_passage : (passage : Passage) → sum_by (place_count passage) ts ≤ passage_count prefixed wanted passage
   in_passage [] = sum_zero (place_count []) (λ t. refl) ts
   in_passage (token ∷ tokens) =
@@ -219,11 +220,11 @@ Fitting corpus property wanted prefixed list = (is_list_of property wanted prefi
 
 module _ (corpus : Corpus) (property : ℕ) (wanted : List ℕ) (prefixed : Bool) where
   of_property : (list : TermList) → Fitting corpus property wanted prefixed list → list.property ≡ property
-  of_property list fit = let e : (list.property == property) ≡ true = and_left (list.property == property) (token_fits prefixed wanted list.token) fit.0 in grind (arith, nat_tests)
+  of_property list fit = let e : (list.property == property) ≡ true = and_left (list.property == property) (is_token_asked prefixed wanted list.token) fit.0 in grind (arith, nat_tests)
 
-  all_fit : (ls : List TermList) → AllAre (Fitting corpus property wanted prefixed) ls → list_all (token_fits prefixed wanted) (map token_of ls) ≡ true
+  all_fit : (ls : List TermList) → AllAre (Fitting corpus property wanted prefixed) ls → list_all (is_token_asked prefixed wanted) (map token_of ls) ≡ true
   all_fit [] all = refl
-  all_fit (l ∷ ls) all = rw (and_right (l.property == property) (token_fits prefixed wanted l.token) all.0.0) (all_fit ls all.1)
+  all_fit (l ∷ ls) all = rw (and_right (l.property == property) (is_token_asked prefixed wanted l.token) all.0.0) (all_fit ls all.1)
 
   tokens_rise : (ls : List TermList) → AllAre (Fitting corpus property wanted prefixed) ls → rises list_before ls ≡ true → rises text_before (map token_of ls) ≡ true
   tokens_rise [] all h = refl

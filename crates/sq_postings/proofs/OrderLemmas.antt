@@ -10,7 +10,7 @@ use Rattle.std.specs.Ordering.{is_lt, is_eq, nat_cmp, ordering_then, MatchOrderi
 use Rattle.std.proofs.Common.{Ordering, Less, Equal, Greater}
 use Rattle.std.specs.Cmp.Lexicographic.{slice_cmp, pointwise}
 use Rattle.std.specs.Str.{bytes_eq}
-use Rattle.sq_postings.specs.Indexed.{token_fits}
+use Rattle.sq_tokens.specs.Pattern.{is_token_asked}
 use Rattle.sq_postings.specs.Rising.{text_before, token_before, term_before, claim_before, length_before}
 use Rattle.sq_postings.specs.Searched.{comes_before, comes_up_to, fits_term, claim_comes_before, length_comes_before}
 use Rattle.sq_postings.specs.declared.parts.Term.{Term}
@@ -100,7 +100,7 @@ beginning_isnt_before (y ∷ w) (x ∷ a) e =
     let same : y ≡ x = same_number y x (and_left (nat_eq y x) _ e) in
     rw (same, equal_to_itself x) (beginning_isnt_before w a (and_right (nat_eq y x) (pointwise nat_eq w (take (length w) a)) e))
 
-pub fitting_isnt_before : (prefixed : Bool) (w a : List ℕ) → token_fits prefixed w a ≡ true → text_before a w ≡ false
+pub fitting_isnt_before : (prefixed : Bool) (w a : List ℕ) → is_token_asked prefixed w a ≡ true → text_before a w ≡ false
 fitting_isnt_before true w a e = beginning_isnt_before w a e
 fitting_isnt_before false w a e = equal_isnt_before a w e
 
@@ -126,7 +126,7 @@ before_beginning (y ∷ w) (x ∷ a) (z ∷ b) l e =
     ]
     at behind Greater f same less = cc
 
-fitting_chain : (prefixed : Bool) (w a b : List ℕ) → text_before a b ≡ true → token_fits prefixed w b ≡ true → (text_before a w ≡ true) ⊎ (token_fits prefixed w a ≡ true)
+fitting_chain : (prefixed : Bool) (w a b : List ℕ) → text_before a b ≡ true → is_token_asked prefixed w b ≡ true → (text_before a w ≡ true) ⊎ (is_token_asked prefixed w a ≡ true)
 fitting_chain true w a b l e = before_beginning w a b l e
 fitting_chain false w a b l e = inl (subst (λ t. text_before a t ≡ true) (same_text b w e) l)
 
@@ -142,20 +142,20 @@ term_chain a b c = token_chain a.property b.property c.property a.token b.token 
 pub before_down : (property : ℕ) (token : List ℕ) (a b : Term) → term_before a b ≡ true → comes_before property token b ≡ true → comes_before property token a ≡ true
 before_down property token a b = token_chain a.property b.property property a.token b.token token
 
-fits_down : (property : ℕ) (w : List ℕ) (prefixed : Bool) (p q : ℕ) (a b : List ℕ) → token_before p a q b ≡ true → (q == property) && token_fits prefixed w b ≡ true
-    → token_before p a property w || ((p == property) && token_fits prefixed w a) ≡ true
+fits_down : (property : ℕ) (w : List ℕ) (prefixed : Bool) (p q : ℕ) (a b : List ℕ) → token_before p a q b ≡ true → (q == property) && is_token_asked prefixed w b ≡ true
+    → token_before p a property w || ((p == property) && is_token_asked prefixed w a) ≡ true
 fits_down property w prefixed p q a b l e = at (by_number p q (text_before a b) l)
   where
     there : q ≡ property
-    there = let f : (q == property) ≡ true = and_left (q == property) (token_fits prefixed w b) e in grind (arith, nat_tests)
+    there = let f : (q == property) ≡ true = and_left (q == property) (is_token_asked prefixed w b) e in grind (arith, nat_tests)
 
-    fit : token_fits prefixed w b ≡ true
-    fit = and_right (q == property) (token_fits prefixed w b) e
+    fit : is_token_asked prefixed w b ≡ true
+    fit = and_right (q == property) (is_token_asked prefixed w b) e
 
-    both : (p ≡ property) → token_fits prefixed w a ≡ true → (p == property) && token_fits prefixed w a ≡ true
+    both : (p ≡ property) → is_token_asked prefixed w a ≡ true → (p == property) && is_token_asked prefixed w a ≡ true
     both f g = rw g (grind (arith, nat_tests))
 
-    at : (p < q) ⊎ ((p ≡ q) × (text_before a b ≡ true)) → token_before p a property w || ((p == property) && token_fits prefixed w a) ≡ true
+    at : (p < q) ⊎ ((p ≡ q) × (text_before a b ≡ true)) → token_before p a property w || ((p == property) && is_token_asked prefixed w a) ≡ true
     at (inl less) = or_left (token_before p a property w) _ (by_less p property (text_before a w) (subst (λ n. p < n) there less))
     at (inr same) = elim (fitting_chain prefixed w a b same.1 fit) [
       | inl less ↦ or_left (token_before p a property w) _ (by_same p property (text_before a w) (same.0 ∙ there) less)
@@ -174,11 +174,11 @@ pub fit_isnt_before : (property : ℕ) (w : List ℕ) (prefixed : Bool) (a : Ter
 fit_isnt_before property w prefixed a e l = at (by_number a.property property (text_before a.token w) l)
   where
     there : a.property ≡ property
-    there = let f : (a.property == property) ≡ true = and_left (a.property == property) (token_fits prefixed w a.token) e in grind (arith, nat_tests)
+    there = let f : (a.property == property) ≡ true = and_left (a.property == property) (is_token_asked prefixed w a.token) e in grind (arith, nat_tests)
 
     at : (a.property < property) ⊎ ((a.property ≡ property) × (text_before a.token w ≡ true)) → ⊥
     at (inl less) = omega (arith, less, there)
-    at (inr same) = not_both (text_before a.token w) same.1 (fitting_isnt_before prefixed w a.token (and_right (a.property == property) (token_fits prefixed w a.token) e))
+    at (inr same) = not_both (text_before a.token w) same.1 (fitting_isnt_before prefixed w a.token (and_right (a.property == property) (is_token_asked prefixed w a.token) e))
 
 -- ---- claims
 

@@ -5,11 +5,11 @@ use Rattle.sq_model.specs.Lists.{is_empty}
 use Rattle.sq_model.specs.Passages.{Passage, passages, numbers}
 use Rattle.sq_model.specs.declared.corpus.Item.{Item}
 use Rattle.sq_model.specs.declared.corpus.Corpus.{Corpus}
-use Rattle.sq_postings.specs.Indexed.{token_fits}
+use Rattle.sq_tokens.specs.Pattern.{is_token_asked}
 use Rattle.sq_postings.specs.StandsFor.{allows, denies}
 
 abbrev pub is_wanted : Bool → List ℕ → Token → Bool
-is_wanted prefixed wanted token = token_fits prefixed wanted (token_text token)
+is_wanted prefixed wanted token = is_token_asked prefixed wanted (token_text token)
 
 -- how many tokens of a passage equal the wanted one, or begin with it
 abbrev pub passage_count : Bool → List ℕ → Passage → ℕ

@@ -1,8 +1,8 @@
 -- What contracts see of an index.
 use Rattle.std.specs.Prelude.{◌≡◌, ℕ, ◌+◌, ◌*◌, ◌/◌, ◌%◌, ◌<◌, ◌≤◌, ℤ, pos, Bool, true, false, ◌&&◌, ◌==◌, nat_eq, if◌then◌else◌, List, [], ◌∷◌, length, map, filter, flat_map, slice_index_or, Option, Some, None}
-use Rattle.std.specs.List.{starts_with}
 use Rattle.std.specs.Str.{bytes_eq}
 use Rattle.sq_schema.specs.declared.property.Kind.{Kind}
+use Rattle.sq_tokens.specs.Pattern.{is_token_asked}
 use Rattle.sq_cursor.specs.declared.span.Span.{Span}
 use Rattle.sq_coded.specs.declared.posting.Posting.{Posting}
 use Rattle.sq_postings.specs.declared.parts.Row.{Row}
@@ -76,12 +76,8 @@ is_of_property property span = span.part / 1_000 == property
 abbrev pub spans_of_list : TermList → List Span
 spans_of_list list = spans_of list.property list.postings
 
--- a token equals the wanted one, or begins with it where `prefixed`
-abbrev pub token_fits : Bool → List ℕ → List ℕ → Bool
-token_fits prefixed wanted token = if prefixed then starts_with nat_eq token wanted else bytes_eq token wanted
-
 abbrev pub is_list_of : ℕ → List ℕ → Bool → TermList → Bool
-is_list_of property wanted prefixed list = (list.property == property) && token_fits prefixed wanted list.token
+is_list_of property wanted prefixed list = (list.property == property) && is_token_asked prefixed wanted list.token
 
 -- the lists from `start` to before `end` are those of the token, and no others
 pub record AreListsOf (index : Indexed) (property : ℕ) (wanted : List ℕ) (prefixed : Bool) (start end : ℕ) : Type 0 where

@@ -1,6 +1,6 @@
 -- What a search looks for.
 use Rattle.std.specs.Prelude.{◌≡◌, ℕ, ◌<◌, ◌≤◌, Bool, true, ◌&&◌, ◌||◌, ◌==◌, nat_lt, List, length, slice_index_or}
-use Rattle.sq_postings.specs.Indexed.{token_fits}
+use Rattle.sq_tokens.specs.Pattern.{is_token_asked}
 use Rattle.sq_postings.specs.Rising.{token_before, text_before}
 use Rattle.sq_postings.specs.declared.parts.Term.{Term}
 use Rattle.sq_postings.specs.declared.parts.Claim.{Claim}
@@ -10,7 +10,7 @@ abbrev pub comes_before : ℕ → List ℕ → Term → Bool
 comes_before property token term = token_before term.property term.token property token
 
 abbrev pub fits_term : ℕ → List ℕ → Bool → Term → Bool
-fits_term property wanted prefixed term = (term.property == property) && token_fits prefixed wanted term.token
+fits_term property wanted prefixed term = (term.property == property) && is_token_asked prefixed wanted term.token
 
 abbrev pub comes_up_to : ℕ → List ℕ → Bool → Term → Bool
 comes_up_to property wanted prefixed term = comes_before property wanted term || fits_term property wanted prefixed term

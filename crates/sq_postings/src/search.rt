@@ -2,7 +2,8 @@ ghost use Rattle.std.specs.Prelude.{◌≡◌, ℕ, ◌<◌, ◌≤◌, true, fa
 ghost use Rattle.std.specs.Str.{bytes_eq};
 ghost use Rattle.std.specs.List.Sorted.{IsPartitionPoint};
 ghost use Rattle.sq_cursor.specs.Rows.{IsRising};
-ghost use Rattle.sq_postings.specs.Indexed.{token_fits, rows_with, length_in};
+ghost use Rattle.sq_tokens.specs.Pattern.{is_token_asked};
+ghost use Rattle.sq_postings.specs.Indexed.{rows_with, length_in};
 ghost use Rattle.sq_postings.specs.Kept.{are_claims};
 ghost use Rattle.sq_postings.specs.Rising.{rises, term_before, length_before, token_before, text_before};
 ghost use Rattle.sq_postings.specs.Searched.{comes_before, comes_up_to, claim_comes_before, length_comes_before, AreFound};
@@ -19,7 +20,7 @@ fn is_before(term: &Term, property: u32, token: &str) -> bool
 
 /// Whether a token equals the wanted one, or begins with it where `prefixed`.
 fn fits(token: &str, wanted: &str, prefixed: bool) -> bool
-    ensures { result ≡ token_fits prefixed wanted.now token.now }
+    ensures { result ≡ is_token_asked prefixed wanted.now token.now }
 {
     if prefixed {
         token.as_bytes().starts_with(wanted.as_bytes())
