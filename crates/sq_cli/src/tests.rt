@@ -35,9 +35,7 @@ fn status_of<S: Source, I: Source, K: Sink, P: Ports>(
     out: &mut K,
     ports: &mut P,
 ) -> u8 {
-    run(
-        alloc, &Services, words, MOMENT, corpus, input, out, ports,
-    )
+    run(alloc, &Services, words, MOMENT, corpus, input, out, ports)
 }
 
 /// Ports at which nothing waits.

@@ -233,13 +233,15 @@ fn a_packet_says_all_of_a_request(rt: HostRuntime) -> Result<(), Fail> {
 }
 
 /// The same request as it is written.
-const REWRITTEN: &str = "<QueryPacket xmlns=\"urn:Microsoft.Search.Query\"><Query><Context><QueryText type=\"FQL\"> a&lt;A </QueryText></Context>\
+const REWRITTEN: &str =
+    "<QueryPacket xmlns=\"urn:Microsoft.Search.Query\"><Query><Context><QueryText type=\"FQL\"> a&lt;A </QueryText></Context>\
 <Range><StartAt>2</StartAt><Count>5</Count></Range><Refiners><Refiner>size(discretize=manual/-6/7)</Refiner></Refiners>\
 <SortByProperties><SortByProperty name=\"Rank\" direction=\"Descending\"/></SortByProperties>\
 <ImplicitAndBehavior>false</ImplicitAndBehavior></Query></QueryPacket>";
 
 /// The packet of SharePoint's client as it is written.
-const PLAIN: &str = "<QueryPacket xmlns=\"urn:Microsoft.Search.Query\"><Query><Context><QueryText type=\"STRING\">debt</QueryText></Context>\
+const PLAIN: &str =
+    "<QueryPacket xmlns=\"urn:Microsoft.Search.Query\"><Query><Context><QueryText type=\"STRING\">debt</QueryText></Context>\
 <Range><StartAt>1</StartAt><Count>10</Count></Range><Properties><Property name=\"Title\"/></Properties></Query></QueryPacket>";
 
 /// Whether a packet is read as a request that is written so.

@@ -52,8 +52,16 @@ fn packet_reply(
 fn each_failed_read_or_write_is_told(rt: HostRuntime) -> Result<(), AllocError> {
     let alloc = rt.alloc();
     for call in 0..4 {
-        assert_eq!(rt; packet_reply(alloc, &[call], &[], &[])?.as_str(), "4 ", "corpus, call {call}");
-        assert_eq!(rt; packet_reply(alloc, &[], &[call], &[])?.as_str(), "4 ", "input, call {call}");
+        assert_eq!(rt;
+            packet_reply(alloc, &[call], &[], &[])?.as_str(),
+            "4 ",
+            "corpus, call {call}"
+        );
+        assert_eq!(rt;
+            packet_reply(alloc, &[], &[call], &[])?.as_str(),
+            "4 ",
+            "input, call {call}"
+        );
     }
     assert_eq!(rt; packet_reply(alloc, &[], &[], &[0])?.as_str(), "5 ");
     assert!(rt; packet_reply(alloc, &[], &[], &[])?.starts_with("0 <?xml"));
@@ -80,7 +88,10 @@ fn texts_that_are_too_long_are_told(rt: HostRuntime) -> Result<(), AllocError> {
     let given = reply(alloc, &["check"], &mut corpus, &mut input, Vec::new(alloc))?;
     assert_eq!(rt; given.as_str(), "8 ");
     let packet = ["packet", "Ann"];
-    assert_eq!(rt; length_status(alloc, &packet, WORKED, 131_073)?.as_str(), "8 ");
+    assert_eq!(rt;
+        length_status(alloc, &packet, WORKED, 131_073)?.as_str(),
+        "8 "
+    );
     assert!(rt; length_status(alloc, &packet, WORKED, 131_072)?.starts_with("1 <?xml"));
     Ok(())
 }
@@ -93,13 +104,23 @@ fn a_file_is_read_and_a_missing_one_is_a_failed_read(rt: HostRuntime) -> Result<
     let mut out = Writing::new(Vec::new(alloc));
     let mut ports = no_ports(alloc)?;
     let status = status_of(
-        alloc, &["check"], &mut corpus, &mut input, &mut out, &mut ports,
+        alloc,
+        &["check"],
+        &mut corpus,
+        &mut input,
+        &mut out,
+        &mut ports,
     );
     assert_eq!(rt; status, 4);
     std::fs::write(&rt, "corpus.sq", WORKED)?;
     let mut corpus = Reading::new(File::open(&rt, "corpus.sq").ok());
     let status = status_of(
-        alloc, &["check"], &mut corpus, &mut input, &mut out, &mut ports,
+        alloc,
+        &["check"],
+        &mut corpus,
+        &mut input,
+        &mut out,
+        &mut ports,
     );
     assert_eq!(rt; status, 0);
     Ok(())

@@ -105,7 +105,11 @@ impl Loader for FixedAnswers {
 fn what_is_written_is_the_engines_answer(rt: HostRuntime) -> Result<(), AllocError> {
     let alloc = rt.alloc();
     let rows = [
-        (["ask", "Ann", "kql", "nothing"], 0, "total 3\nitem 7 score 70\n"),
+        (
+            ["ask", "Ann", "kql", "nothing"],
+            0,
+            "total 3\nitem 7 score 70\n",
+        ),
         (["ask", "Zed", "kql", "debt"], 1, "fault 511 at 0\n"),
     ];
     for (words, status, text) in &rows {

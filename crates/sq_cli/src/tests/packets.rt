@@ -13,7 +13,9 @@ pub fn packet_of(
     text: &str,
     rest: &str,
 ) -> Result<String, AllocError> {
-    format!(in alloc; "<QueryPacket xmlns=\"urn:Microsoft.Search.Query\"><Query><Context><QueryText{attributes}>{text}</QueryText></Context>{rest}</Query></QueryPacket>")
+    format!(in alloc;
+        "<QueryPacket xmlns=\"urn:Microsoft.Search.Query\"><Query><Context><QueryText{attributes}>{text}</QueryText></Context>{rest}</Query></QueryPacket>"
+    )
 }
 
 /// A response without its tags.
@@ -129,7 +131,8 @@ const SENT: &str = "<?xml version=\"1.0\" encoding=\"utf-8\"?>
 </QueryPacket>
 ";
 
-const ANSWERED: &str = "0 <?xml version=\"1.0\" encoding=\"utf-8\"?><ResponsePacket xmlns=\"urn:Microsoft.Search.Response\"><Response><Range><StartAt>1</StartAt><Count>1</Count><TotalAvailable>1</TotalAvailable><Results><Document><Number>2</Number><Score>20</Score><Url>http://s/2</Url><Properties><Property><Name>title</Name><Value>Debt notes</Value></Property></Properties></Document></Results></Range><Status>SUCCESS</Status></Response></ResponsePacket>";
+const ANSWERED: &str =
+    "0 <?xml version=\"1.0\" encoding=\"utf-8\"?><ResponsePacket xmlns=\"urn:Microsoft.Search.Response\"><Response><Range><StartAt>1</StartAt><Count>1</Count><TotalAvailable>1</TotalAvailable><Results><Document><Number>2</Number><Score>20</Score><Url>http://s/2</Url><Properties><Property><Name>title</Name><Value>Debt notes</Value></Property></Properties></Document></Results></Range><Status>SUCCESS</Status></Response></ResponsePacket>";
 
 #[test]
 fn packets_are_answered_page_by_page(rt: HostRuntime) -> Result<(), AllocError> {

@@ -111,7 +111,9 @@ const SECOND: &str = " / HTTP/1.1 404 Not Found;Content-Length: 0;Connection: cl
 fn after_a_failure(alloc: Global, reads: &[u32], writes: &[u32]) -> Result<String, AllocError> {
     let packet = packet_of(alloc, "", "debt", "")?;
     let length = packet.len();
-    let request = format!(in alloc; "POST /query HTTP/1.1\r\nX-Search-Caller: Ann\r\nContent-Length: {length}\r\nConnection: close\r\n\r\n{packet}")?;
+    let request = format!(in alloc;
+        "POST /query HTTP/1.1\r\nX-Search-Caller: Ann\r\nContent-Length: {length}\r\nConnection: close\r\n\r\n{packet}"
+    )?;
     let mut wires = Vec::new(alloc);
     wires.push(wire_of(alloc, &request, 100, reads, writes)?)?;
     wires.push(wire_of(alloc, "GET /x HTTP/1.0\r\n\r\n", 100, &[], &[])?)?;
@@ -130,7 +132,10 @@ fn a_wire_that_fails_ends_alone(rt: HostRuntime) -> Result<(), AllocError> {
     for call in 0..3 {
         let given = after_a_failure(alloc, &[], &[call])?;
         let sent = given.strip_suffix(SECOND).unwrap_or("");
-        assert!(rt; whole.starts_with(sent) && sent.starts_with("0 / "), "write {call}");
+        assert!(rt;
+            whole.starts_with(sent) && sent.starts_with("0 / "),
+            "write {call}"
+        );
     }
     Ok(())
 }
