@@ -23,13 +23,21 @@ fn words_of(rt: &HostRuntime) -> Result<Vec<String>, AllocError> {
     Ok(words)
 }
 
+/// Whether the first word is that of serving.
+fn asks_to_serve(words: &[&str]) -> bool {
+    match words {
+        [first, ..] => *first == "serve",
+        [] => false,
+    }
+}
+
 fn status_of(rt: &HostRuntime) -> Result<u8, AllocError> {
     let owned = words_of(rt)?;
     let mut words = Vec::new(rt.alloc());
     for word in &owned {
         words.push(word.as_str())?;
     }
-    let loader = Telling::new(rt, words.first() == Some(&"serve"));
+    let loader = Telling::new(rt, asks_to_serve(&words));
     let mut corpus = Reading::new(File::open(rt, "corpus.sq").ok());
     let mut input = Reading::new(Some(rt.reader()));
     let mut out = Writing::new(io::writer(rt));
