@@ -1,0 +1,5 @@
+pub mod Gathered
+pub mod Lengths
+pub mod Numbers
+pub mod Terms
+pub mod Words
