@@ -8,6 +8,7 @@ use Rattle.sq_postings.specs.Indexed.{length_in}
 use Rattle.sq_postings.specs.Rising.{rises, length_before}
 use Rattle.sq_postings.specs.Occurrences.{values_at}
 use Rattle.sq_build.specs.Lengths.{passage_lengths, lengths_from}
+use Rattle.sq_build.proofs.TestLemmas.{both_true, from_lt}
 
 hit_same : (row ordinal other : ℕ) → ordinal ≡ other → ((row == row) && (ordinal == other)) ≡ true
 hit_same row ordinal other e = grind (arith, nat_tests)
@@ -80,10 +81,6 @@ table_tells property row wanted items =
 
 -- ---- it rises
 
-both_true : (a b : Bool) → a ≡ true → b ≡ true → (a && b) ≡ true
-both_true true b p q = q
-both_true false b p q = absurd (cc)
-
 -- the first entry, if there is one, is of a later row
 abbrev is_later : ℕ → List Length → Bool
 is_later row [] = true
@@ -105,16 +102,13 @@ own_rise row ordinal (p ∷ (q ∷ ps)) rest later up =
     both_true (length_before (record { row = row; ordinal = ordinal; tokens = length p }) (record { row = row; ordinal = ordinal + 1; tokens = length q })) _
     (next_entry row ordinal (length p) (length q)) (own_rise row (ordinal + 1) (q ∷ ps) rest later up)
 
-later_lt : (row next : ℕ) → row < next → nat_lt row next ≡ true
-later_lt row next l = grind (arith, nat_tests)
-
 later_from : (row next property : ℕ) (items : List Item) → row < next → is_later row (lengths_from next property items) ≡ true
 later_from row next property [] l = refl
 later_from row next property (item ∷ items) l = at (passages item.values property) (later_from row (next + 1) property items (omega arith))
   where
     at : (ps : List Passage) → is_later row (lengths_from (next + 1) property items) ≡ true → is_later row (passage_lengths next 0 ps ++ lengths_from (next + 1) property items) ≡ true
     at [] more = more
-    at (p ∷ ps) more = later_lt row next l
+    at (p ∷ ps) more = from_lt row next l
 
 pub lengths_rise : (row property : ℕ) (items : List Item) → rises length_before (lengths_from row property items) ≡ true
 lengths_rise row property [] = refl

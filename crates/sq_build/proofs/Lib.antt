@@ -1,7 +1,12 @@
+pub mod BuildLemmas
+pub mod ClaimLemmas
+pub mod DictionaryLemmas
 pub mod GatherLemmas
+pub mod KeyLemmas
 pub mod LengthLemmas
 pub mod NumberLemmas
 pub mod PassageLemmas
 pub mod StepLemmas
 pub mod TermLemmas
+pub mod TestLemmas
 pub mod ValueLemmas

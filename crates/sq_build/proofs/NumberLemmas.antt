@@ -10,18 +10,7 @@ use Rattle.sq_model.specs.Passages.{numbers}
 use Rattle.sq_postings.specs.Rising.{rises, pair_up_to}
 use Rattle.sq_postings.specs.Occurrences.{numbered, numbers_from}
 use Rattle.sq_build.specs.Numbers.{numbers_of_property, numbers_by_property}
-
-both_true : (a b : Bool) → a ≡ true → b ≡ true → (a && b) ≡ true
-both_true true b p q = q
-both_true false b p q = absurd (cc)
-
-first_true : (a b : Bool) → (a && b) ≡ true → a ≡ true
-first_true true b p = refl
-first_true false b p = absurd (cc)
-
-second_true : (a b : Bool) → (a && b) ≡ true → b ≡ true
-second_true true b p = p
-second_true false b p = absurd (cc)
+use Rattle.sq_build.proofs.TestLemmas.{both_true, first_true, second_true, from_lt}
 
 -- ---- numbers in order rise
 
@@ -74,16 +63,13 @@ pairs_rise row (n ∷ (m ∷ ns)) pairs up later held =
     both_true (pair_up_to (row, n) (row, m)) _ (pair_same row n m (first_true (int_le n m) _ up))
     (pairs_rise row (m ∷ ns) pairs (second_true (int_le n m) _ up) later held)
 
-later_lt : (row next : ℕ) → row < next → nat_lt row next ≡ true
-later_lt row next l = grind (arith, nat_tests)
-
 later_from : (row next property : ℕ) (items : List Item) → row < next → is_later row (numbers_from next property items) ≡ true
 later_from row next property [] l = refl
 later_from row next property (item ∷ items) l = at (in_order int_lt (numbers item.values property)) (later_from row (next + 1) property items (omega arith))
   where
     at : (ns : List ℤ) → is_later row (numbers_from (next + 1) property items) ≡ true → is_later row (map (numbered next) ns ++ numbers_from (next + 1) property items) ≡ true
     at [] more = more
-    at (n ∷ ns) more = later_lt row next l
+    at (n ∷ ns) more = from_lt row next l
 
 pub numbers_rise : (row property : ℕ) (items : List Item) → rises pair_up_to (numbers_from row property items) ≡ true
 numbers_rise row property [] = refl

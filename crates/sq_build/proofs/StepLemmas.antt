@@ -1,7 +1,7 @@
 -- One step of a loop over a list, or over a range.
-use Rattle.std.proofs.Common.{◌≡◌, ℕ, ◌+◌, ◌-◌, ◌<◌, List, [], ◌∷◌, ◌++◌, map, drop, sym, ap, ◌∙◌, arith, slice_get, Some, suc, append_assoc}
+use Rattle.std.proofs.Common.{◌≡◌, ℕ, ◌+◌, ◌-◌, ◌<◌, ◌≤◌, List, [], ◌∷◌, ◌++◌, map, drop, sym, ap, ◌∙◌, arith, slice_get, Some, suc, append_assoc}
 use Rattle.std.specs.List.{range_with_len}
-use Rattle.std.proofs.lemmas.List.{drop_more}
+use Rattle.std.proofs.lemmas.List.{append-nil, drop_more}
 use Rattle.std.proofs.lemmas.Option.{slice_get_within, get_or_from_slice_get}
 
 pub map_turn : {X Y : Type 0} (f : X → Y) (xs : List X) (i : ℕ) (x : X) (now new whole : List Y) → slice_get xs i ≡ Some x → new ≡ now ++ f x ∷ []
@@ -21,3 +21,8 @@ pub range_turn : {Y : Type 0} (f : ℕ → Y) (i n : ℕ) (now new whole : List 
 range_turn f i n now new whole l grows held =
     ap (λ l. l ++ map f (range_with_len (i + 1) (n - (i + 1)))) grows ∙ append_assoc now (f i ∷ []) (map f (range_with_len (i + 1) (n - (i + 1))))
     ∙ ap (λ ps. now ++ map f ps) (sym (range_step i n l)) ∙ held
+
+pub range_end : {Y : Type 0} (f : ℕ → Y) (i n : ℕ) (now whole : List Y) → n ≤ i → now ++ map f (range_with_len i (n - i)) ≡ whole → now ≡ whole
+range_end f i n now whole past held =
+    let e : n - i ≡ 0 = omega (arith, past) in
+    sym (append-nil now) ∙ ap (λ k. now ++ map f (range_with_len i k)) (sym e) ∙ held

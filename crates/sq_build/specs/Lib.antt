@@ -1,3 +1,6 @@
+pub mod AreParts
+pub mod Claims
+pub mod Dictionary
 pub mod Gathered
 pub mod Lengths
 pub mod Numbers

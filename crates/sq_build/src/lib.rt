@@ -1,17 +1,14 @@
-//! The parts of the index of a corpus: what an index keeps of each property, item and number, and the
-//! tokens, postings and lengths of each property, which one pass over the items gives.
-//!
-//! The whole index is made of these parts, and stands for the corpus by what each call here promises.
+//! The index of a corpus, built from its items: what an index keeps of each property, item and number,
+//! the tokens, postings and lengths of each property by one pass over the items, and the claims.
 #![tactic(auto)]
 
+mod build;
+mod claims;
+mod dictionary;
 mod gather;
 mod numbers;
 mod passages;
-mod property;
 mod rows;
 mod terms;
 
-pub use numbers::numbers_by_property;
-pub use property::{PropertyLists, property_lists};
-pub use rows::{rows_of, shapes_of};
-pub use terms::sorted_terms;
+pub use build::build_index;

@@ -1,6 +1,5 @@
 //! The numbers of each property, by row and then by number.
 ghost use Rattle.std.specs.Prelude.{◌≡◌, ◌++◌, ◌<◌, ◌^◌, length, map, int_lt, IfOk, OnOk};
-ghost use Rattle.std.specs.List.{range_with_len};
 ghost use Rattle.std.specs.Ordering.{is_lt};
 ghost use Rattle.sq_base.specs.Sorting.{in_order};
 ghost use Rattle.sq_model.specs.Passages.{number_of, numbers};

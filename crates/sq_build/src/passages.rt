@@ -5,7 +5,7 @@ ghost use Rattle.std.specs.List.{AllPass};
 ghost use Rattle.std.specs.Option.{option_map};
 ghost use Rattle.sq_model.specs.Passages.{Passage, passages};
 ghost use Rattle.sq_model.specs.Valid.{has_short_texts};
-ghost use Rattle.sq_postings.specs.Occurrences.{posting, passage_postings, postings_from, postings_of};
+ghost use Rattle.sq_postings.specs.Occurrences.{posting, passage_postings, postings_of};
 ghost use Rattle.sq_build.specs.Gathered.{found, IsGathered, MayFollowAll, OthersStay};
 ghost use Rattle.sq_build.specs.Lengths.{passage_lengths, lengths_from};
 ghost use Rattle.sq_build.specs.Words.{words_in, passages_in, is_short_value};
