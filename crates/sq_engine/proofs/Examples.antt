@@ -7,13 +7,17 @@ use Rattle.sq_schema.specs.Properties.{has_name}
 use Rattle.sq_schema.specs.Words.{is_same_word}
 use Rattle.sq_model.specs.declared.corpus.Content.TheVariants as content
 use Rattle.sq_model.specs.declared.corpus.Corpus.{Corpus}
+use Rattle.sq_model.specs.declared.corpus.Item.{Item}
 use Rattle.sq_model.specs.declared.corpus.Value.{Value}
+use Rattle.sq_model.specs.Access.{seen}
+use Rattle.sq_model.specs.declared.fql.FTree.TheVariants as tree
 use Rattle.sq_packet.specs.declared.request.Direction.TheVariants.{Ascending, Descending}
 use Rattle.sq_packet.specs.declared.request.Language.TheVariants as language
 use Rattle.sq_packet.specs.declared.request.RefinerSpec.{RefinerSpec}
 use Rattle.sq_packet.specs.declared.request.Request.{Request}
 use Rattle.sq_packet.specs.declared.request.SortSpec.{SortSpec}
 use Rattle.sq_engine.specs.Answer.{Meaning, Score, Of, key_of, rows_of}
+use Rattle.sq_engine.specs.Price.{refiner_price, sort_price, shown_price, answer_price, text_price, price_to, price}
 use Rattle.sq_engine.specs.Verdict.{Unknown, NoRefiner, NoSort, said, key_named, text_verdict, verdict}
 
 abbrev schema : List Property
@@ -82,3 +86,39 @@ greatest_size = refl
 
 no_title : key_of (pos 7) sizes (Of 0, Ascending) ≡ None
 no_title = refl
+
+-- ---- prices
+
+abbrev item : Item
+item = record { number = 1; rank = pos 10; url = codes "http://s/1"; allow = codes "staff" ∷ []; deny = []; values = sizes }
+
+abbrev archive : Corpus
+archive = record { schema = schema; callers = corpus.callers; items = item ∷ [] }
+
+unknown_callers_cost_nothing : (moment : ℤ) (request : Request) → price archive (codes "ann") moment request ≡ 0
+unfolding price_to
+unknown_callers_cost_nothing moment request = refl
+
+refused_refiners_cost_nothing : text_price archive [] (asked (refiner (codes "title") ∷ []) []) (Ok tree.All) ≡ 0
+unfolding has_name is_same_word
+refused_refiners_cost_nothing = refl
+
+refiner_by_size : refiner_price archive (refiner (codes "size")) ≡ 6
+unfolding has_name is_same_word
+refiner_by_size = refl
+
+sort_by_size : sort_price archive (Of 1, Descending) ≡ 7
+sort_by_size = refl
+
+sort_by_score : sort_price archive (Score, Descending) ≡ 0
+sort_by_score = refl
+
+sizes_and_no_title : shown_price (1 ∷ 0 ∷ []) (seen item) ≡ 5
+sizes_and_no_title = refl
+
+-- no item names the claim
+an_idle_claim : answer_price archive (codes "guest" ∷ []) (asked [] []) tree.All [] ≡ 0
+an_idle_claim = refl
+
+a_claim_that_admits : answer_price archive (codes "staff" ∷ []) (asked [] []) tree.All [] ≡ 1
+a_claim_that_admits = refl

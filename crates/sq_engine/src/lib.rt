@@ -10,6 +10,6 @@ mod query;
 mod refused;
 
 pub use engine::{Engine, Loader};
-pub use laws::{nothing_leaks, unknown_are_unnamed};
+pub use laws::{alike_cost_alike, alike_give_one_verdict, nothing_leaks, unknown_are_unnamed};
 pub use query::{lowered_text, tree_of};
 pub use refused::{LoadFault, Refused};

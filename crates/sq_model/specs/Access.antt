@@ -6,6 +6,14 @@ use Rattle.sq_model.specs.declared.corpus.Value.{Value}
 use Rattle.sq_model.specs.declared.corpus.Item.{Item}
 use Rattle.sq_model.specs.declared.corpus.Corpus.{Corpus}
 
+-- the item's list of claims that admit has the claim
+abbrev pub allows : List ℕ → Item → Bool
+allows claim item = list_any (bytes_eq claim) item.allow
+
+-- the item's list of claims that deny has the claim
+abbrev pub denies : List ℕ → Item → Bool
+denies claim item = list_any (bytes_eq claim) item.deny
+
 -- one of the claims is in the list
 abbrev pub names_one : List (List ℕ) → List (List ℕ) → Bool
 names_one list claims = list_any (λ claim. list_any (bytes_eq claim) list) claims

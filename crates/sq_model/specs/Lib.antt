@@ -1,5 +1,7 @@
 pub mod Access
+pub mod Alike
 pub mod Copies
+pub mod Cost
 pub mod Fql
 pub mod FqlSound
 pub mod Kinds
@@ -14,5 +16,6 @@ pub mod Passages
 pub mod Places
 pub mod Shown
 pub mod Spans
+pub mod Sums
 pub mod Triples
 pub mod Valid

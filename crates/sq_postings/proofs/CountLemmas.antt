@@ -13,7 +13,7 @@ use Rattle.sq_model.specs.Passages.{Passage, passages}
 use Rattle.sq_model.specs.declared.corpus.Item.{Item}
 use Rattle.sq_model.specs.declared.corpus.Corpus.{Corpus}
 use Rattle.sq_coded.specs.declared.posting.Posting.{Posting}
-use Rattle.sq_postings.specs.Cost.{passage_count, posting_count}
+use Rattle.sq_model.specs.Cost.{passage_count, posting_count}
 use Rattle.sq_tokens.specs.Pattern.{is_token_asked}
 use Rattle.sq_postings.specs.Indexed.{Indexed, TermList, is_list_of, list_at, list_of, AreListsOf}
 use Rattle.sq_postings.specs.Laws.{lists_between, list_length, list_postings, ListsAreWithinCount, ListsHavePostings}

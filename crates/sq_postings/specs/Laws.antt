@@ -2,7 +2,7 @@
 use Rattle.std.specs.Prelude.{◌≡◌, ◌≤◌, ◌<◌, ℕ, ◌+◌, ◌-◌, ◌*◌, Bool, false, ◌&&◌, eqb, List, length, map, filter, take, drop, sum_by, flat_map}
 use Rattle.sq_coded.specs.declared.posting.Posting.{Posting}
 use Rattle.sq_model.specs.declared.corpus.Corpus.{Corpus}
-use Rattle.sq_postings.specs.Cost.{posting_count}
+use Rattle.sq_model.specs.Cost.{posting_count}
 use Rattle.sq_cursor.specs.declared.span.Span.{Span}
 use Rattle.sq_postings.specs.Indexed.{Indexed, TermList, AreListsOf, list_at, spans_of_list}
 use Rattle.sq_postings.specs.Occurrences.{postings_of, places_from, passage_at}

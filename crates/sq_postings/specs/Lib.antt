@@ -1,4 +1,4 @@
-pub mod Cost
+pub mod Edges
 pub mod Indexed
 pub mod Kept
 pub mod Laws

@@ -1,8 +1,7 @@
 -- When an index stands for a corpus.
-use Rattle.std.specs.Prelude.{◌≡◌, ◌≢◌, ℕ, ◌<◌, Bool, List, [], map, length}
-use Rattle.std.specs.List.{list_any}
-use Rattle.std.specs.Str.{bytes_eq}
+use Rattle.std.specs.Prelude.{◌≡◌, ◌≢◌, ℕ, ◌<◌, List, [], map, length}
 use Rattle.sq_schema.specs.declared.property.Property.{Property}
+use Rattle.sq_model.specs.Access.{allows, denies}
 use Rattle.sq_model.specs.declared.corpus.Item.{Item}
 use Rattle.sq_model.specs.declared.corpus.Corpus.{Corpus}
 use Rattle.sq_postings.specs.declared.parts.Row.{Row}
@@ -15,14 +14,6 @@ shape_of property = record { kind = property.kind; searchable = property.searcha
 
 abbrev pub row_of : Item → Row
 row_of item = record { number = item.number; rank = item.rank }
-
--- the item's list of claims that admit has the claim
-abbrev pub allows : List ℕ → Item → Bool
-allows claim item = list_any (bytes_eq claim) item.allow
-
--- the item's list of claims that deny has the claim
-abbrev pub denies : List ℕ → Item → Bool
-denies claim item = list_any (bytes_eq claim) item.deny
 
 -- The list of each token has its places, and each token that stands somewhere has a list. The numbers, the
 -- rows of claims and the lengths of passages are those of the corpus.

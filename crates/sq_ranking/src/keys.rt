@@ -46,7 +46,7 @@ impl RankedHit {
     }
 
     /// The first sort by which the keys differ decides, else the scores.
-    pub(crate) fn compare(&self, other: &RankedHit, order: &Directions) -> Ordering
+    pub fn compare(&self, other: &RankedHit, order: &Directions) -> Ordering
         ensures { is_lt result ≡ comes_before (directions_of order.now) (ranked_hit self.now) (ranked_hit other.now) }
     {
         let Some(first) = order.first else {

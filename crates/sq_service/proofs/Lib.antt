@@ -1,7 +1,13 @@
-pub mod FoundLemmas
-pub mod HitLemmas
+pub mod CollectedLemmas
+pub mod HeldLemmas
+pub mod KeyLemmas
+pub mod ListedLemmas
 pub mod MeansLemmas
 pub mod Placed
 pub mod PropertyLemmas
+pub mod RefiningLemmas
 pub mod RowLemmas
+pub mod SeenLemmas
+pub mod ServiceLemmas
 pub mod SortLemmas
+pub mod WalkLemmas

@@ -1,10 +1,11 @@
 -- What is answered by a tree that means what a query means is what is answered by the query.
-use Rattle.std.proofs.Common.{◌≡◌, ℕ, ℤ, List, [], map, filter, Option, Some, None, Ok, refl, sym, subst, ap, ap₂, ◌∙◌}
+use Rattle.std.proofs.Common.{◌≡◌, ℕ, ℤ, ◌+◌, ◌≤◌, List, [], map, filter, Option, Some, None, Ok, refl, sym, subst, ap, ap₂, ◌∙◌}
 use mathlib.Core.Path.{fun_ext}
 use Rattle.std.specs.Prelude.{◌&&◌, ◌+ℤ◌, Result, Err, option_map}
 use Rattle.std.specs.List.{find}
 use Rattle.std.proofs.lemmas.Simd.{map-map}
 use Rattle.sq_base.specs.Outcome.{Outcome}
+use Rattle.sq_base.specs.declared.faults.QueryFault.{QueryFault}
 use Rattle.sq_schema.specs.declared.property.Property.{Property}
 use Rattle.sq_model.specs.declared.corpus.Caller.{Caller}
 use Rattle.sq_model.specs.declared.corpus.Corpus.{Corpus}
@@ -21,14 +22,14 @@ use Rattle.sq_ranking.proofs.PageLemmas.{pages_seen}
 use Rattle.sq_ranking.specs.Ranking.{Ranked, page_by}
 use Rattle.sq_engine.specs.Answer as answer
 use Rattle.sq_engine.specs.Answer.{Meaning, SortKey, hits, score_of, found_of}
-use Rattle.sq_engine.specs.Query.{Query, Means, GivesTree, query_of, joiner_of, holds, boost}
+use Rattle.sq_engine.specs.Query.{Query, Means, GivesTree, query_of, tree_of, joiner_of, holds, boost}
 use Rattle.sq_engine.specs.declared.refused.Refused.{Refused}
 use Rattle.sq_engine.specs.Answers.{Answers}
 use Rattle.sq_engine.specs.Verdict as verdict
-use Rattle.sq_engine.specs.Verdict.{Verdict, unless_empty, sorts_verdict, refiners_verdict, text_verdict, meaning_by, sort_keys, first_without, is_refinable, said}
-use Rattle.sq_service.specs.Hits.{meaning_of}
+use Rattle.sq_engine.specs.Verdict.{Verdict, Faulty, NoRefiner, NoSort, unless_empty, sorts_verdict, refiners_verdict, text_verdict, meaning_by, sort_keys, first_without, is_refinable, said}
+use Rattle.sq_engine.specs.Price.{meaning_by_tree, refiners_price, text_price, price_to, price}
 use Rattle.sq_service.proofs.Placed.{Placed, all_placed}
-use Rattle.sq_service.proofs.FoundLemmas.{seen_at, kept, hits_are}
+use Rattle.sq_service.proofs.SeenLemmas.{seen_at, kept, hits_are}
 
 -- Two meanings that agree on the items of a corpus.
 module _ (corpus : Corpus) (valid : IsValid corpus) (claims : List (List ℕ)) (first second : Meaning)
@@ -125,15 +126,15 @@ module _ (corpus : Corpus) (valid : IsValid corpus) (claims : List (List ℕ)) (
 
   same_text : (query : Query) (outcome : Outcome Query) → outcome ≡ Ok query → Means corpus.schema (joiner_of request) query tree
       → text_verdict corpus.schema request (view corpus claims) (meaning_by corpus.schema request outcome)
-      ≡ refiners_verdict corpus.schema (meaning_of corpus.schema tree) request (view corpus claims) (first_without (is_refinable corpus.schema) 0 request.refiners)
+      ≡ refiners_verdict corpus.schema (meaning_by_tree corpus.schema tree) request (view corpus claims) (first_without (is_refinable corpus.schema) 0 request.refiners)
   same_text query outcome is means =
       ap (λ one. text_verdict corpus.schema request (view corpus claims) (meaning_by corpus.schema request one)) is
-      ∙ sym (by_refiners corpus valid claims (meaning_of corpus.schema tree) (of_query query)
+      ∙ sym (by_refiners corpus valid claims (meaning_by_tree corpus.schema tree) (of_query query)
       (λ p. means.same_hits p.item.values p.fits) (λ p. means.same_boost p.item.values p.fits) request (first_without (is_refinable corpus.schema) 0 request.refiners))
 
   pub answers_text : (result : Result Response Refused)
       → GivesTree corpus.schema (joiner_of request) (query_of corpus.schema moment request.language request.text) (Ok tree)
-      → Answers (refiners_verdict corpus.schema (meaning_of corpus.schema tree) request (view corpus claims) (first_without (is_refinable corpus.schema) 0 request.refiners)) result
+      → Answers (refiners_verdict corpus.schema (meaning_by_tree corpus.schema tree) request (view corpus claims) (first_without (is_refinable corpus.schema) 0 request.refiners)) result
       → Answers (text_verdict corpus.schema request (view corpus claims) (verdict.meaning_of corpus.schema moment request)) result
   answers_text result gives answers =
       let P : Verdict → Type 0 = λ verdict. Answers verdict result in
@@ -149,15 +150,6 @@ given schema side side' moment moment' language text text' tree s m t gives =
     let R : List ℕ → Type 0 = λ one. GivesTree schema side' (query_of schema moment' language one) (Ok tree) in
     subst R t (subst Q m (subst P s gives))
 
--- Without a refiner that is refused, and with sorts that go by these keys, the answer by them is the answer.
-pub answers_sorted : (schema : List Property) (meaning : Meaning) (request : Request) (seen : List Seen) (sorts : List (SortKey × Direction)) (result : Result Response Refused)
-    → first_without (is_refinable schema) 0 request.refiners ≡ None → Ok sorts ≡ sort_keys schema 0 request.sorts
-    → Answers (sorts_verdict schema meaning request seen (Ok sorts)) result
-    → Answers (refiners_verdict schema meaning request seen (first_without (is_refinable schema) 0 request.refiners)) result
-answers_sorted schema meaning request seen sorts result none is answers =
-    let P : Verdict → Type 0 = λ verdict. Answers verdict result in
-    subst P (ap (sorts_verdict schema meaning request seen) is ∙ sym (ap (refiners_verdict schema meaning request seen) none)) answers
-
 -- The answer to the holder of a caller's claims is the answer to the caller.
 pub answers_caller : (corpus : Corpus) (name : List ℕ) (moment moment' : ℤ) (request : Request) (caller : Caller) (claims : List (List ℕ)) (result : Result Response Refused)
     → find (verdict.is_named name) corpus.callers ≡ Some caller → claims ≡ caller.claims → moment' ≡ moment
@@ -168,3 +160,25 @@ answers_caller corpus name moment moment' request caller claims result named is 
     let P : Verdict → Type 0 = λ verdict. Answers verdict result in
     subst P (ap₂ (λ held m. text_verdict corpus.schema request (view corpus held) (verdict.meaning_of corpus.schema m request)) is same
     ∙ sym (ap (λ found. said corpus.schema moment request (option_map (λ caller. view corpus caller.claims) found)) named)) answers
+
+-- A fault of the text is what is answered.
+pub answers_fault : (schema : List Property) (moment : ℤ) (request : Request) (seen : List Seen) (fault : QueryFault) → query_of schema moment request.language request.text ≡ Err fault
+    → text_verdict schema request seen (verdict.meaning_of schema moment request) ≡ Faulty fault
+answers_fault schema moment request seen fault is = ap (λ (outcome : Outcome Query). text_verdict schema request seen (meaning_by schema request outcome)) is
+
+-- A text costs what its tree costs, and a caller pays what the holder of his claims pays.
+pub price_text : (corpus : Corpus) (claims : List (List ℕ)) (request : Request) (tree : FTree) (outcome : Outcome FTree) (before after : ℕ) → outcome ≡ Ok tree
+    → after ≤ before + refiners_price corpus claims request tree (first_without (is_refinable corpus.schema) 0 request.refiners)
+    → after ≤ before + text_price corpus claims request outcome
+price_text corpus claims request tree outcome before after is cost =
+    subst (λ (one : Outcome FTree). after ≤ before + text_price corpus claims request one) (sym is) cost
+
+pub price_caller : (corpus : Corpus) (name : List ℕ) (moment moment' : ℤ) (request : Request) (caller : Caller) (claims : List (List ℕ)) (before after : ℕ)
+    → find (verdict.is_named name) corpus.callers ≡ Some caller → claims ≡ caller.claims → moment' ≡ moment
+    → after ≤ before + text_price corpus claims request (tree_of corpus.schema moment' (joiner_of request) request.language request.text)
+    → after ≤ before + price corpus name moment request
+unfolding price_to
+price_caller corpus name moment moment' request caller claims before after named is same cost =
+    subst (λ (n : ℕ). after ≤ before + n)
+    (ap₂ (λ (held : List (List ℕ)) (m : ℤ). text_price corpus held request (tree_of corpus.schema m (joiner_of request) request.language request.text)) is same
+    ∙ sym (ap (price_to corpus moment request) named)) cost

@@ -1,24 +1,36 @@
 -- The sorts of a request and the keys of a hit.
 use Rattle.std.proofs.Common.{◌≡◌, ℕ, ℤ, ◌+◌, ◌<◌, ◌≤◌, Bool, true, false, cond, List, [], ◌∷◌, ◌++◌, length, map, take, drop, get_or, option_to_list, Option, Some, None, Result, Ok, Err, refl, ap, sym, ◌∙◌, append_assoc, arith}
-use Rattle.std.specs.Prelude.{int_lt, ◌==◌, slice_get, option_map}
-use Rattle.std.specs.List.{filter, filter_map}
+use Rattle.std.specs.Prelude.{int_lt, slice_get, option_map}
 use Rattle.std.proofs.lemmas.List.{at_drop_more}
 use Rattle.sq_schema.specs.declared.property.Property.{Property}
-use Rattle.sq_model.specs.Passages.{number_of, numbers}
 use Rattle.sq_model.specs.declared.corpus.Value.{Value}
 use Rattle.sq_packet.specs.declared.request.Direction.{Direction}
 use Rattle.sq_packet.specs.declared.request.Direction.TheVariants.{Ascending, Descending}
 use Rattle.sq_packet.specs.declared.request.SortSpec.{SortSpec}
 use Rattle.sq_ranking.specs.Keys as ranking
+use Rattle.sq_ranking.specs.declared.keys.SortKeys.{SortKeys}
 use Rattle.sq_engine.specs.Answer.{SortKey, key_of, key_among, least, greatest}
 use Rattle.sq_engine.specs.Verdict.{key_named, onto_key, sort_keys}
 use Rattle.sq_service.specs.declared.sorts.Sort.{Sort}
-use Rattle.sq_service.specs.Sorts.{sort_of, keys_in}
+use Rattle.sq_service.specs.Sorts.{sort_of}
 
 -- what is known of the sorts before, in front of what the others go by
 abbrev pub behind : List (SortKey × Direction) → Result (List (SortKey × Direction)) ℕ → Result (List (SortKey × Direction)) ℕ
 behind before (Ok keys) = Ok (before ++ keys)
 behind before (Err i) = Err i
+
+-- the key for the sort at a place, if there is one
+abbrev pub key_in : ℤ → List Value → Option Sort → Option ℤ
+key_in score values None = None
+key_in score values (Some sort) = key_of score values (sort_of sort)
+
+abbrev pub keys_in : ℤ → List Value → List Sort → SortKeys
+keys_in score values sorts = record {
+  first = key_in score values (slice_get sorts 0);
+  second = key_in score values (slice_get sorts 1);
+  third = key_in score values (slice_get sorts 2);
+  fourth = key_in score values (slice_get sorts 3);
+}
 
 -- as far as there are sorts, the keys are those that are asked for
 pub alike_keys : (score : ℤ) (values : List Value) (sorts : List Sort) → length sorts ≤ 4
@@ -41,7 +53,7 @@ greater : (t : Bool) (n m : ℤ) (ns : List ℤ) → Some (greatest (cond t m n)
 greater true n m ns = refl
 greater false n m ns = refl
 
-key_step : (direction : Direction) (best : Option ℤ) (n : ℤ) (ns : List ℤ)
+pub key_step : (direction : Direction) (best : Option ℤ) (n : ℤ) (ns : List ℤ)
     → key_among direction (option_to_list (key_among direction (option_to_list best ++ n ∷ [])) ++ ns) ≡ key_among direction (option_to_list best ++ n ∷ ns)
 key_step Ascending None n ns = refl
 key_step Descending None n ns = refl
@@ -61,31 +73,6 @@ key_more direction best (n ∷ here) rest =
     ap (λ one. key_among direction (option_to_list one ++ rest)) (sym (key_step direction best n here))
     ∙ key_more direction (key_among direction (option_to_list best ++ n ∷ [])) here rest
     ∙ key_step direction best n (here ++ rest)
-
--- The numbers of the first value stand before those of the others.
-
-first_number : (t : Bool) (value : Value) (one : Option ℤ) (values : List Value) → number_of value.content ≡ one
-    → filter_map number_of (map (λ v. v.content) (cond t (value ∷ values) values))
-    ≡ filter_map number_of (map (λ v. v.content) (cond t (value ∷ []) [])) ++ filter_map number_of (map (λ v. v.content) values)
-first_number false value one values is = refl
-first_number true value None values is = rw is refl
-first_number true value (Some n) values is = rw is refl
-
-pub first_numbers : (value : Value) (values : List Value) (property : ℕ) → numbers (value ∷ values) property ≡ numbers (value ∷ []) property ++ numbers values property
-first_numbers value values property = first_number (value.property == property) value (number_of value.content) (filter (λ v. v.property == property) values) refl
-
--- one value more
-pub key_loop : (direction : Direction) (values : List Value) (i : ℕ) (best more : Option ℤ) (value : Value) (property : ℕ) (all : Option ℤ)
-    → i < length values → value ≡ get_or values i value → more ≡ key_among direction (option_to_list best ++ numbers (value ∷ []) property)
-    → key_among direction (option_to_list best ++ numbers (drop i values) property) ≡ all
-    → key_among direction (option_to_list more ++ numbers (drop (i + 1) values) property) ≡ all
-key_loop direction values i best more value property all within is step before =
-    ap (λ one. key_among direction (option_to_list one ++ numbers (drop (i + 1) values) property)) step
-    ∙ key_more direction best (numbers (value ∷ []) property) (numbers (drop (i + 1) values) property)
-    ∙ ap (λ ns. key_among direction (option_to_list best ++ ns))
-    (sym (first_numbers value (drop (i + 1) values) property) ∙ ap (λ v. numbers (v ∷ drop (i + 1) values) property) is
-    ∙ sym (at_drop_more (λ vs. numbers vs property) values i value within))
-    ∙ before
 
 -- one sort more
 behind_more : (before : List (SortKey × Direction)) (key : SortKey) (direction : Direction) (i : ℕ) (more : Result (List (SortKey × Direction)) ℕ)

@@ -1,5 +1,9 @@
-pub mod Hits
-pub mod Page
+pub mod Collected
+pub mod Found
+pub mod Keys
+pub mod Listed
+pub mod Refining
 pub mod Rows
+pub mod ServiceOf
 pub mod Sorts
 pub mod Unknown

@@ -1,14 +1,13 @@
-//! The service that walks its corpus: it asks each item by the meaning of the query, reads no index and counts no step.
+//! The service that goes by the index of its corpus: it reads the lists that a query and a caller's claims name, and no others.
 #![tactic(auto)]
 
 mod answer;
 mod callers;
+mod collected;
 mod found;
-mod hits;
-mod items;
 mod keys;
+mod listed;
 mod loader;
-mod page;
 mod refiners;
 mod rows;
 mod service;

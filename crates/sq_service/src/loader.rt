@@ -1,10 +1,13 @@
 //! What makes services.
 ghost use Rattle.std.specs.Prelude.{◌≡◌, IfOk};
+ghost use Rattle.sq_model.specs.Valid.{IsValid};
+ghost use Rattle.sq_service.specs.ServiceOf.{IsServiceOf};
 
 use crate::service::Service;
 use sq_base::{ReadAll, Source, read_all};
 use sq_corpus::{CorpusFault, read_corpus};
-use sq_engine::{LoadFault, Loader};
+use sq_engine::{LoadFault, Loader, alike_give_one_verdict};
+use sq_holding::{Holding, told_is_alike};
 use sq_model::Corpus;
 use std::alloc::{AllocError, Global};
 
@@ -15,14 +18,24 @@ const MOST_BYTES: usize = 67_108_864;
 #[derive(Clone, Copy, Debug)]
 pub struct Services;
 
-fn copy_of(corpus: &Corpus) -> Result<Corpus, AllocError>
-    ensures { IfOk result (λ copy. copy ≡ corpus.now) }
+/// The service of a corpus, whose items are let go.
+fn service_of(alloc: Global, corpus: Corpus) -> Result<Service, AllocError>
+    requires { IsValid corpus }
+    ensures { IfOk result (λ service. IsServiceOf service corpus) }
 {
-    Ok(Corpus {
-        schema: corpus.schema.clone()?,
-        callers: corpus.callers.clone()?,
-        items: corpus.items.clone()?,
-    })
+    told_is_alike();
+    alike_give_one_verdict();
+    Ok(Service::new(Holding::of(alloc, corpus)?))
+}
+
+/// The service of a corpus that stays.
+fn built(alloc: Global, corpus: &Corpus) -> Result<Service, AllocError>
+    requires { IsValid corpus.now }
+    ensures { IfOk result (λ service. IsServiceOf service corpus.now) }
+{
+    told_is_alike();
+    alike_give_one_verdict();
+    Ok(Service::new(Holding::of_copy(alloc, corpus)?))
 }
 
 impl Loader for Services {
@@ -39,14 +52,20 @@ impl Loader for Services {
             Err(ReadAll::TooLong) => return Err(LoadFault::TooLong),
             Err(ReadAll::NoMemory) => return Err(LoadFault::NoMemory),
         };
-        match read_corpus(alloc, &bytes) {
-            Ok(corpus) => Ok(Service::new(corpus)),
-            Err(CorpusFault::Line { code, line }) => Err(LoadFault::Corpus { code, line }),
-            Err(CorpusFault::NoMemory) => Err(LoadFault::NoMemory),
+        let corpus = match read_corpus(alloc, &bytes) {
+            Ok(corpus) => corpus,
+            Err(CorpusFault::Line { code, line }) => return Err(LoadFault::Corpus { code, line }),
+            Err(CorpusFault::NoMemory) => return Err(LoadFault::NoMemory),
+        };
+        // The text is let go before the index is built, so that the two never take memory at once.
+        drop(bytes);
+        match service_of(alloc, corpus) {
+            Ok(service) => Ok(service),
+            Err(AllocError) => Err(LoadFault::NoMemory),
         }
     }
 
-    fn build(&self, _alloc: Global, corpus: &Corpus) -> Result<Service, AllocError> {
-        Ok(Service::new(copy_of(corpus)?))
+    fn build(&self, alloc: Global, corpus: &Corpus) -> Result<Service, AllocError> {
+        built(alloc, corpus)
     }
 }

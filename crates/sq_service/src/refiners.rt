@@ -1,17 +1,40 @@
 //! The refiners of a request.
-ghost use Rattle.std.specs.Prelude.{◌≡◌, ◌≤◌, length, map, IfOk};
+ghost use Rattle.std.specs.Prelude.{◌≡◌, ℕ, ◌+◌, ◌≤◌, Some, true, List, [], length, map, sum_by, slice_get, IfOk};
+ghost use Rattle.std.specs.List.{All};
+ghost use Rattle.sq_schema.specs.declared.property.Property.{Property};
+ghost use Rattle.sq_model.specs.Valid.{are_rising};
+ghost use Rattle.sq_packet.specs.Asked.{HasBuckets};
+ghost use Rattle.sq_packet.specs.declared.request.RefinerSpec.{RefinerSpec as Asked};
+ghost use Rattle.sq_postings.specs.Indexed.{Indexed};
 ghost use Rattle.sq_engine.specs.Verdict as verdict;
-ghost use Rattle.sq_service.specs.Page as spec;
+ghost use Rattle.sq_service.specs.Refining as spec;
 
-use crate::items::{numbers_of, values_at};
 use crate::shown::name_of;
-use sq_base::List;
-use sq_model::{Corpus, Item};
+use sq_base::{List, Steps};
+use sq_collect::Refiner;
 use sq_packet::RefinerSpec;
-use sq_ranking::{RankedHit, entries_of};
+use sq_postings::Index;
 use sq_response::Refined;
 use sq_schema::Schema;
 use std::alloc::{AllocError, Global};
+use std::sync::ledger::Ledger;
+
+/// A refiner with the row of its property in the schema.
+#[derive(Drop)]
+pub(crate) struct Refining<'a> {
+    property: u32,
+    refiner: Refiner<'a>,
+}
+
+impl<'a> Refining<'a> {
+    /// Counts the numbers of a row, which comes behind those before.
+    fn take<L: Ledger>(&mut self, row: u32, steps: &mut Steps<L>)
+        ensures taken { spec.Took row (Some self.old) (Some self.new) }
+        ensures cost { steps.new + spec.refining_rest self.new ≤ steps.old + spec.refining_rest self.old }
+    {
+        self.refiner.take(row, steps);
+    }
+}
 
 fn is_refinable(schema: &Schema, refiner: &RefinerSpec) -> bool
     ensures { result ≡ verdict.is_refinable schema.now refiner.now }
@@ -38,58 +61,79 @@ pub(crate) fn first_unrefinable(schema: &Schema, refiners: &[RefinerSpec]) -> Op
     None
 }
 
-/// The numbers that each hit has of a property.
-fn columns(
+/// The refiner of a property of the schema. Another name, which is refused before, is answered as want of memory.
+fn refining_of<'a, L: Ledger>(
     alloc: Global,
-    items: &[Item],
-    property: u32,
-    hits: &[RankedHit],
-) -> Result<List<List<i64>>, AllocError>
-    ensures { IfOk result (λ all. all ≡ spec.columns items.now property hits.now) }
+    schema: &Schema,
+    index: &'a Index,
+    asked: &RefinerSpec,
+    steps: &mut Steps<L>,
+) -> Result<Refining<'a>, AllocError>
+    requires { HasBuckets asked.now }
+    ensures counts { IfOk result (λ one. spec.IsRefiningOf index.now schema.now asked.now one []) }
+    ensures cost { steps.new ≤ steps.old + spec.refiner_cost index.now schema.now asked.now }
+    ensures rest { IfOk result (λ one. steps.new + spec.refining_rest one ≤ steps.old + spec.refiner_cost index.now schema.now asked.now) }
 {
-    let mut all = List::new(alloc);
-    for hit in hits {
-        all.push(numbers_of(alloc, values_at(items, hit.number), property)?)?;
+    let Some(property) = schema.find(asked.name.as_str()) else {
+        return Err(AllocError);
+    };
+    let refiner = Refiner::reserve(alloc, index, property, asked.bounds.as_slice(), steps)?;
+    Ok(Refining { property, refiner })
+}
+
+/// The refiners of a request, which have no rows yet. All their names are of the schema.
+pub(crate) fn refinings_of<'a, L: Ledger>(
+    alloc: Global,
+    schema: &Schema,
+    index: &'a Index,
+    asked: &[RefinerSpec],
+    steps: &mut Steps<L>,
+) -> Result<Vec<Refining<'a>>, AllocError>
+    requires { All HasBuckets asked.now }
+    ensures counts { IfOk result (λ all. spec.AreRefiningsOf index.now schema.now asked.now all.items []) }
+    ensures cost { steps.new ≤ steps.old + sum_by (spec.refiner_cost index.now schema.now) asked.now }
+    ensures rest { IfOk result (λ all. steps.new + sum_by spec.refining_rest all.items ≤ steps.old + sum_by (spec.refiner_cost index.now schema.now) asked.now) }
+{
+    let mut all = Vec::new(alloc);
+    for one in asked {
+        all.push(refining_of(alloc, schema, index, one, steps)?)?;
     }
     Ok(all)
 }
 
-/// The counts of a refiner over the hits.
-fn refined(
-    alloc: Global,
-    corpus: &Corpus,
-    hits: &[RankedHit],
-    refiner: &RefinerSpec,
-) -> Result<Refined, AllocError>
-    ensures { IfOk result (λ one. one ≡ spec.refined_at corpus.now.schema corpus.now.items hits.now refiner.now) }
+/// Counts the numbers of a row, which comes behind those before.
+pub(crate) fn take_row<L: Ledger>(refinings: &mut Vec<Refining<'_>>, row: u32, steps: &mut Steps<L>)
+    ensures taken { (k : ℕ) → spec.Took row (slice_get refinings.old.items k) (slice_get refinings.new.items k) }
+    ensures cost { steps.new + sum_by spec.refining_rest refinings.new.items ≤ steps.old + sum_by spec.refining_rest refinings.old.items }
 {
-    match corpus.schema.find(refiner.name.as_str()) {
-        Some(row) => {
-            let columns = columns(alloc, corpus.items.as_slice(), row, hits)?;
-            Ok(Refined {
-                name: name_of(alloc, &corpus.schema, row)?,
-                entries: entries_of(alloc, refiner.bounds.as_slice(), columns.as_slice())?,
-            })
-        }
-        None => Ok(Refined {
-            name: refiner.name.clone()?,
-            entries: List::new(alloc),
-        }),
+    for i in 0..refinings.len() {
+        refinings[i].take(row, steps);
     }
 }
 
-/// The counts of each refiner over the hits.
-pub(crate) fn refiners_of(
+/// The counts of a refiner, under its property's name as the schema spells it.
+fn refined(alloc: Global, schema: &Schema, one: &Refining<'_>) -> Result<Refined, AllocError>
+    ensures { (index : Indexed) (asked : Asked) (rows : List ℕ) → spec.IsRefiningOf index schema.now asked one.now rows → are_rising rows ≡ true
+        → IfOk result (λ shown. shown ≡ spec.refined_by index schema.now rows asked) }
+{
+    Ok(Refined {
+        name: name_of(alloc, schema, one.property)?,
+        entries: one.refiner.entries(alloc)?,
+    })
+}
+
+/// The counts of each refiner.
+pub(crate) fn refined_of(
     alloc: Global,
-    corpus: &Corpus,
-    hits: &[RankedHit],
-    refiners: &[RefinerSpec],
+    schema: &Schema,
+    refinings: &[Refining<'_>],
 ) -> Result<List<Refined>, AllocError>
-    ensures { IfOk result (λ all. all ≡ map (spec.refined_at corpus.now.schema corpus.now.items hits.now) refiners.now) }
+    ensures { (index : Indexed) (asked : List Asked) (rows : List ℕ) → spec.AreRefiningsOf index schema.now asked refinings.now rows → are_rising rows ≡ true
+        → IfOk result (λ all. all ≡ map (spec.refined_by index schema.now rows) asked) }
 {
     let mut all = List::new(alloc);
-    for refiner in refiners {
-        all.push(refined(alloc, corpus, hits, refiner)?)?;
+    for one in refinings {
+        all.push(refined(alloc, schema, one)?)?;
     }
     Ok(all)
 }

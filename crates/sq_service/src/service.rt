@@ -1,80 +1,69 @@
 //! The service.
 ghost use Rattle.std.specs.Prelude.{◌≡◌};
-ghost use Rattle.sq_model.specs.Valid.{IsValid};
 
 use crate::answer::answer;
 use crate::callers::caller_named;
 use sq_base::Steps;
-use sq_engine::{Engine, Refused};
-use sq_model::Corpus;
+use sq_engine::{Engine, Refused, alike_cost_alike, alike_give_one_verdict};
+use sq_holding::{Holding, told_is_alike};
 use sq_packet::Request;
 use sq_response::Response;
 use sq_schema::Schema;
 use std::alloc::Global;
-use std::marker::Model;
 use std::sync::ledger::Ledger;
 
-/// A service over the items of a corpus, which contracts see as the corpus. It asks each item that a caller sees by the
-/// meaning of the query: it reads no index and counts no step.
+/// A service over what it holds of a corpus: its schema and callers, an index, and the values that are shown. It asks no item
+/// by the meaning of a query, but reads the lists of the index.
 #[derive(Drop)]
 pub struct Service {
-    corpus: Corpus,
-}
-
-impl Model for Service {
-    ghost use Rattle.sq_model.specs.declared.corpus.Corpus.{Corpus as Archive};
-    ghost use Rattle.sq_model.specs.Valid.{IsValid};
-
-    ghost Value = { Archive };
-
-    ghost view = { λ service. service.corpus };
-
-    ghost invariant = { λ service. IsValid service.corpus };
+    holding: Holding,
 }
 
 impl Service {
-    /// The service of a corpus.
-    pub fn new(corpus: Corpus) -> Service
-        requires { IsValid corpus }
-        ensures { result ≡ corpus }
+    /// The service of what is held.
+    pub fn new(holding: Holding) -> Service
+        ensures { result.holding ≡ holding }
     {
-        Service { corpus }
+        Service { holding }
     }
 }
 
 impl Engine for Service {
     ghost use Rattle.std.specs.Prelude.{length};
+    ghost use Rattle.sq_engine.specs.Price.{price as price_of};
     ghost use Rattle.sq_engine.specs.Verdict.{knows as knows_name, verdict as said_of};
+    ghost use Rattle.sq_holding.specs.Told.{told};
     ghost use Rattle.sq_service.specs.Unknown.{unknown_are_unnamed};
 
-    ghost schema = { λ service. service.schema };
+    ghost schema = { λ service. service.holding.schema };
 
-    ghost callers = { λ service. length service.callers };
+    ghost callers = { λ service. length service.holding.callers };
 
-    ghost items = { λ service. length service.items };
+    ghost items = { λ service. length service.holding.index.rows };
 
-    ghost names = { knows_name };
+    ghost names = { λ service. knows_name (told service.holding) };
 
-    ghost says = { said_of };
+    ghost says = { λ service. said_of (told service.holding) };
 
-    ghost price = { λ _ _ _ _. 0 };
+    ghost price = { λ service. price_of (told service.holding) };
 
-    ghost unknown = { λ service name moment request. unknown_are_unnamed service name moment request };
+    ghost unknown = { λ service name moment request. unknown_are_unnamed (told service.holding) name moment request };
 
     fn schema(&self) -> &Schema {
-        &self.corpus.schema
+        self.holding.schema()
     }
 
     fn callers(&self) -> u32 {
-        self.corpus.callers.len() as u32
+        self.holding.tells();
+        self.holding.callers().len() as u32
     }
 
     fn items(&self) -> u32 {
-        self.corpus.items.len() as u32
+        self.holding.index().items()
     }
 
     fn knows(&self, caller: &[u8]) -> bool {
-        match caller_named(self.corpus.callers.as_slice(), caller) {
+        match caller_named(self.holding.callers().as_slice(), caller) {
             Some(_) => true,
             None => false,
         }
@@ -86,8 +75,12 @@ impl Engine for Service {
         caller: &[u8],
         now: i64,
         request: &Request,
-        _steps: &mut Steps<L>,
+        steps: &mut Steps<L>,
     ) -> Result<Response, Refused> {
-        answer(alloc, &self.corpus, caller, now, request)
+        self.holding.tells();
+        told_is_alike();
+        alike_give_one_verdict();
+        alike_cost_alike();
+        answer(alloc, &self.holding, caller, now, request, steps)
     }
 }

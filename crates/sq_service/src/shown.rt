@@ -1,15 +1,15 @@
 //! The values of a hit as they are shown.
-ghost use Rattle.std.specs.Prelude.{◌≡◌, ◌++◌, true, map, IfOk, OnOk};
-ghost use Rattle.std.specs.List.{list_all};
-ghost use Rattle.sq_model.specs.Passages.{contents};
-ghost use Rattle.sq_model.specs.Shown.{has_shown_text};
+ghost use Rattle.std.specs.Prelude.{◌≡◌, ◌+◌, ◌≤◌, ◌++◌, map, length, option_map, option_to_list, slice_get, IfOk, OnOk};
+ghost use Rattle.sq_stored.specs.Stored.{values_at};
 ghost use Rattle.sq_engine.specs.Answer as answer;
+ghost use Rattle.sq_service.specs.Listed as spec;
 
-use sq_base::{List, Text};
-use sq_model::{Content, Value, shown_text};
+use sq_base::{List, Steps, Text};
 use sq_response::Shown;
 use sq_schema::Schema;
+use sq_stored::Stored;
 use std::alloc::{AllocError, Global};
+use std::sync::ledger::Ledger;
 
 /// The name of a row, as the schema spells it.
 pub(crate) fn name_of(alloc: Global, schema: &Schema, row: u32) -> Result<Text, AllocError>
@@ -21,49 +21,70 @@ pub(crate) fn name_of(alloc: Global, schema: &Schema, row: u32) -> Result<Text, 
     }
 }
 
-fn shown(alloc: Global, name: &Text, content: &Content) -> Result<Shown, AllocError>
-    requires { has_shown_text content.now ≡ true }
-    ensures { IfOk result (λ one. one ≡ answer.shown name.now content.now) }
+fn shown(alloc: Global, name: &Text, text: &str) -> Result<Shown, AllocError>
+    ensures { IfOk result (λ one. one ≡ spec.shown_as name.now text.now) }
 {
     Ok(Shown {
         name: name.clone()?,
-        text: shown_text(alloc, content)?,
+        text: Text::from_str(alloc, text)?,
     })
 }
 
-/// Adds the values of a row, in the item's order.
-fn add_values(
+/// Adds the text of a value, if there is one. It counts a step.
+fn add_value<L: Ledger>(
     alloc: Global,
-    schema: &Schema,
-    values: &[Value],
+    name: &Text,
+    stored: &Stored,
     row: u32,
+    property: u32,
+    i: u32,
     all: &mut List<Shown>,
+    steps: &mut Steps<L>,
 ) -> Result<(), AllocError>
-    requires { list_all (λ value. has_shown_text value.content) values.now ≡ true }
-    ensures { OnOk result (all.new ≡ all.old ++ map (answer.shown (answer.name_of schema.now row)) (contents values.now row)) }
+    ensures value { OnOk result (all.new ≡ all.old ++ option_to_list (option_map (spec.shown_as name.now) (slice_get (values_at stored.now row property) i))) }
+    ensures cost { steps.new ≤ steps.old + 1 }
 {
-    let name = name_of(alloc, schema, row)?;
-    for value in values {
-        if value.property == row {
-            all.push(shown(alloc, &name, &value.content)?)?;
-        }
+    if let Some(text) = stored.value(row, property, i, steps) {
+        all.push(shown(alloc, name, text)?)?;
     }
     Ok(())
 }
 
-/// The values that are shown, in the order of the rows.
-pub(crate) fn shown_values(
+/// Adds the values of a property in a row, in the item's order. Each counts a step.
+fn add_values<L: Ledger>(
     alloc: Global,
     schema: &Schema,
-    rows: &[u32],
-    values: &[Value],
+    stored: &Stored,
+    row: u32,
+    property: u32,
+    all: &mut List<Shown>,
+    steps: &mut Steps<L>,
+) -> Result<(), AllocError>
+    ensures values { OnOk result (all.new ≡ all.old ++ spec.shown_of schema.now stored.now row property) }
+    ensures cost { steps.new ≤ steps.old + length (values_at stored.now row property) }
+{
+    let name = name_of(alloc, schema, property)?;
+    for i in 0..stored.count(row, property) {
+        add_value(alloc, &name, stored, row, property, i, all, steps)?;
+    }
+    Ok(())
+}
+
+/// The values of a row that are shown, in the order of the properties.
+pub(crate) fn shown_values<L: Ledger>(
+    alloc: Global,
+    schema: &Schema,
+    stored: &Stored,
+    row: u32,
+    properties: &[u32],
+    steps: &mut Steps<L>,
 ) -> Result<List<Shown>, AllocError>
-    requires { list_all (λ value. has_shown_text value.content) values.now ≡ true }
-    ensures { IfOk result (λ all. all ≡ answer.shown_values schema.now rows.now values.now) }
+    ensures values { IfOk result (λ all. all ≡ spec.shown_values schema.now stored.now properties.now row) }
+    ensures cost { steps.new ≤ steps.old + spec.shown_cost stored.now properties.now row }
 {
     let mut all = List::new(alloc);
-    for row in rows {
-        add_values(alloc, schema, values, *row, &mut all)?;
+    for property in properties {
+        add_values(alloc, schema, stored, row, *property, &mut all, steps)?;
     }
     Ok(all)
 }

@@ -1,9 +1,10 @@
 //! What the sorts of a request go by.
-ghost use Rattle.std.specs.Prelude.{◌≡◌, ◌≤◌, length, map, codes, option_map, slice_get, IfOk};
+ghost use Rattle.std.specs.Prelude.{◌≡◌, ◌≤◌, length, map, codes, option_map, slice_get, true, IfOk, IfSome};
+ghost use Rattle.std.specs.List.{list_all};
 ghost use Rattle.sq_schema.specs.Words.{is_same_word};
 ghost use Rattle.sq_engine.specs.Verdict as verdict;
 ghost use Rattle.sq_ranking.specs.Keys as ranking;
-ghost use Rattle.sq_service.specs.Sorts.{key, goes_by};
+ghost use Rattle.sq_service.specs.Sorts.{key, goes_by, is_key_within, is_within};
 
 use sq_base::List;
 use sq_packet::{Direction, SortSpec};
@@ -42,7 +43,8 @@ fn has_keys(kind: Kind) -> bool
 }
 
 fn key_at(schema: &Schema, row: u32) -> Option<Key>
-    ensures { option_map key result ≡ verdict.key_at row (slice_get schema.now row) }
+    ensures within { IfSome result (λ key. is_key_within schema.now key ≡ true) }
+    ensures key { option_map key result ≡ verdict.key_at row (slice_get schema.now row) }
 {
     match schema.property(row) {
         Some(property) => {
@@ -58,7 +60,8 @@ fn key_at(schema: &Schema, row: u32) -> Option<Key>
 
 /// What a sort of this name goes by, if items are sorted by it.
 fn key_named(schema: &Schema, name: &str) -> Option<Key>
-    ensures { option_map key result ≡ verdict.key_named schema.now name.now }
+    ensures within { IfSome result (λ key. is_key_within schema.now key ≡ true) }
+    ensures key { option_map key result ≡ verdict.key_named schema.now name.now }
 {
     if is_rank(name) {
         return Some(Key::Score);
@@ -78,6 +81,7 @@ pub(crate) fn sorts_of(
     requires { length asked.now ≤ 4 }
     ensures sorts { IfOk result (λ sorts. goes_by sorts ≡ verdict.sort_keys schema.now 0 asked.now) }
     ensures few { IfOk result (λ sorts. IfOk sorts (λ all. length all ≤ 4)) }
+    ensures within { IfOk result (λ sorts. IfOk sorts (λ all. list_all (is_within schema.now) all ≡ true)) }
 {
     let mut sorts = List::new(alloc);
     for (i, sort) in asked.iter().enumerate() {

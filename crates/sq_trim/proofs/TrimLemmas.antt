@@ -1,143 +1,92 @@
--- The rows of the items that pass tests.
-use Rattle.std.proofs.Common.{◌≡◌, ℕ, suc, ◌+◌, ◌<◌, ◌≤◌, Bool, true, false, not, ◌&&◌, ◌||◌, cond, List, [], ◌∷◌, length, map, filter, drop, refl, sym, ap, ◌∙◌, subst, arith}
-use Rattle.std.specs.Prelude.{nat_le, eqb, sum_by}
+-- The rows of the items that claims admit, by their flags.
+use Rattle.std.proofs.Common.{◌≡◌, ℕ, zero, suc, ◌+◌, ◌-◌, ◌<◌, ◌≤◌, Bool, true, false, not, ◌&&◌, ◌||◌, cond, List, [], ◌∷◌, length, map, filter, drop, replicate, refl, sym, ap, ◌∙◌, subst, arith}
+use Rattle.std.specs.Prelude.{nat_le, nat_lt, sum_by, slice_set, Option, Some, None}
 use Rattle.std.specs.List.{list_any}
 use Rattle.std.proofs.lemmas.Bool.Decides.{nat_tests}
+use native.Mathlib.Numerals.{unary_clauses}
+use Rattle.std.proofs.lemmas.List.{drop-drop}
 use Rattle.std.proofs.lemmas.List.Sums.{sum_by-cons}
-use Rattle.sq_cursor.specs.Entries.{entries_behind}
-use Rattle.sq_cursor.specs.declared.list.ListCursor.{ListCursor}
-use Rattle.sq_cursor.specs.Rows.{AllAbove, IsRising, IsRising-filter, IsRising-union_of, rows_from as rows_not_below, is_row_of, other_rows, with_row, with_rows, union_of}
-use Rattle.sq_model.specs.Access.{names_one}
+use Rattle.sq_cursor.specs.Rows.{rows_from as rows_not_below, without_first}
+use Rattle.sq_model.specs.Access.{names_one, admits, allows, denies}
+use Rattle.sq_model.specs.Cost.{claim_cost}
 use Rattle.sq_model.specs.declared.corpus.Item.{Item}
 use Rattle.sq_model.specs.declared.corpus.Corpus.{Corpus}
-use Rattle.sq_postings.specs.Cost.{claim_cost}
+use Rattle.sq_postings.specs.declared.parts.Row.{Row}
 use Rattle.sq_postings.specs.Indexed.{Indexed}
 use Rattle.sq_postings.specs.Occurrences.{rows_from}
-use Rattle.sq_postings.specs.StandsFor.{StandsFor, allows, denies}
-use Rattle.sq_trim.specs.Trimmed.{claim_rows, claim_entries, rows_left, AreAdmitted}
+use Rattle.sq_postings.specs.StandsFor.{StandsFor, row_of}
+use Rattle.sq_trim.specs.Flags.{flagged, left_of, marked, marked_all}
+use Rattle.sq_trim.specs.Trimmed.{claim_rows, claim_entries, flags_by, AreAdmitted}
 
-higher : (low x : ℕ) (xs : List ℕ) → low ≤ x → AllAbove x xs → AllAbove low xs
-higher low x [] l h = tt
-higher low x (y ∷ xs) l h = let m = h.0 in (omega (arith, l, m), higher low x xs l h.1)
+-- ---- moves
 
--- the rows of items from a row on are not below it
-rows_above : (low row : ℕ) (p : Item → Bool) (items : List Item) → low < row → AllAbove low (rows_from row p items)
-rows_above low row p [] l = tt
-rows_above low row p (item ∷ items) l = at (p item) (rows_above low (row + 1) p items (omega (arith, l)))
+-- none of the rows from a row on is below it
+all_not_below : (low row : ℕ) (flags : List Bool) → low ≤ row → rows_not_below low (flagged row flags) ≡ flagged row flags
+all_not_below low row [] l = refl
+all_not_below low row (flag ∷ flags) l = at flag (all_not_below low (row + 1) flags (omega (arith, l)))
   where
-    at : (b : Bool) → AllAbove low (rows_from (row + 1) p items) → AllAbove low (cond b (row ∷ rows_from (row + 1) p items) (rows_from (row + 1) p items))
-    at true h = (l, h)
+    yes : nat_le low row ≡ true
+    yes = grind (arith, nat_tests, l)
+
+    at : (b : Bool) → rows_not_below low (flagged (row + 1) flags) ≡ flagged (row + 1) flags
+        → rows_not_below low (cond b (row ∷ flagged (row + 1) flags) (flagged (row + 1) flags)) ≡ cond b (row ∷ flagged (row + 1) flags) (flagged (row + 1) flags)
+    at true h = rw yes (ap (λ rows. row ∷ rows) h)
     at false h = h
 
-abbrev pub list_left : ListCursor → List ℕ
-list_left c = drop c.at c.rows.now
-
-abbrev pub list_rest : ListCursor → ℕ
-list_rest c = entries_behind (list_left c)
-
--- what is left of the cursors that admit, without those that deny
-abbrev pub left_of : List ListCursor → List ListCursor → List ℕ
-left_of allowed denied = other_rows (union_of (map list_left allowed)) (union_of (map list_left denied))
-
-abbrev pub rest_of : List ListCursor → List ListCursor → ℕ
-rest_of allowed denied = sum_by list_rest allowed + sum_by list_rest denied
-
-pub rising_from : (row : ℕ) (old new : List ℕ) → new ≡ rows_not_below row old → IsRising old → IsRising new
-rising_from row old new is rises = subst IsRising (sym is) (IsRising-filter (nat_le row) old rises)
-
-pub rising_left : (index : Indexed) (claims : List (List ℕ)) → IsRising (rows_left index claims)
-rising_left index claims =
-    IsRising-filter (λ row. not (is_row_of (union_of (map (claim_rows index true) claims)) row)) (union_of (map (claim_rows index false) claims))
-    (IsRising-union_of (map (claim_rows index false) claims))
-
--- ---- unions
-
-behind_first : (low : ℕ) (xs ys : List ℕ) → AllAbove low xs → with_rows xs (low ∷ ys) ≡ low ∷ with_rows xs ys
-behind_first low [] ys h = refl
-behind_first low (x ∷ xs) ys h = ap (with_row x) (behind_first low xs ys h.1) ∙ past
+-- the rows that are not below one some places on
+dropped : (k row : ℕ) (flags : List Bool) → rows_not_below (row + k) (flagged row flags) ≡ flagged (row + k) (drop k flags)
+dropped zero row flags = let e : row + 0 ≡ row = omega arith in rw e (all_not_below row row flags (omega arith))
+dropped (suc k) row [] = refl
+dropped (suc k) row (flag ∷ flags) =
+    let e : row + suc k ≡ (row + 1) + k = omega arith in
+    rw e (at flag (dropped k (row + 1) flags))
   where
-    past : with_row x (low ∷ with_rows xs ys) ≡ low ∷ with_row x (with_rows xs ys)
-    past = let above = h.0 in let no : nat_le x low ≡ false = grind (arith, nat_tests) in rw no refl
+    no : nat_le ((row + 1) + k) row ≡ false
+    no = grind (arith, nat_tests)
 
-in_front : (row : ℕ) (xs : List ℕ) → AllAbove row xs → with_row row xs ≡ row ∷ xs
-in_front row [] h = refl
-in_front row (x ∷ xs) h =
-    let above = h.0 in
-    let yes : nat_le row x ≡ true = grind (arith, nat_tests) in
-    let no : eqb row x ≡ false = grind (arith, nat_tests) in
-    rw (yes, no) refl
+    at : (b : Bool) → rows_not_below ((row + 1) + k) (flagged (row + 1) flags) ≡ flagged ((row + 1) + k) (drop k flags)
+        → rows_not_below ((row + 1) + k) (cond b (row ∷ flagged (row + 1) flags) (flagged (row + 1) flags)) ≡ flagged ((row + 1) + k) (drop k flags)
+    at true h = rw no h
+    at false h = h
 
-stays : (row : ℕ) (xs : List ℕ) → with_row row (row ∷ xs) ≡ row ∷ xs
-stays row xs =
-    let yes : nat_le row row ≡ true = grind (arith, nat_tests) in
-    let same : eqb row row ≡ true = grind (arith, nat_tests) in
-    rw (yes, same) refl
+-- a row is flagged, and it is the first that is left
+pub sought : (row here : ℕ) (flags : List Bool) → here < row → rows_not_below row (left_of (Some here) flags) ≡ flagged row (drop row flags)
+sought row here flags l =
+    let no : nat_le row here ≡ false = grind (arith, nat_tests, l) in
+    let e : (here + 1) + (row - (here + 1)) ≡ row = omega (arith, l) in
+    rw no
+    (subst (λ n. rows_not_below n (flagged (here + 1) (drop (here + 1) flags)) ≡ flagged n (drop n flags)) e
+    (dropped (row - (here + 1)) (here + 1) (drop (here + 1) flags) ∙ ap (flagged ((here + 1) + (row - (here + 1)))) (drop-drop (row - (here + 1)) (here + 1) flags)))
 
-union_rows : (row : ℕ) (p q : Item → Bool) (items : List Item) → with_rows (rows_from row p items) (rows_from row q items) ≡ rows_from row (λ item. p item || q item) items
-union_rows row p q [] = refl
-union_rows row p q (item ∷ items) = at (p item) (q item) (union_rows (row + 1) p q items)
+pub stays : (row here : ℕ) (flags : List Bool) → row ≤ here → rows_not_below row (left_of (Some here) flags) ≡ left_of (Some here) flags
+stays row here flags l = let yes : nat_le row here ≡ true = grind (arith, nat_tests, l) in rw yes (ap (λ rows. here ∷ rows) (all_not_below row (here + 1) (drop (here + 1) flags) (omega (arith, l))))
+
+-- ---- marks
+
+set_behind : (flag b : Bool) (row : ℕ) (flags : List Bool) → slice_set (flag ∷ flags) (row + 1) b ≡ flag ∷ slice_set flags row b
+set_behind flag b row flags = simp unary_clauses refl
+
+-- marks behind the first flag leave it
+behind_first : (flag b : Bool) (p : Item → Bool) (row : ℕ) (items : List Item) (flags : List Bool)
+    → marked b (rows_from (row + 1) p items) (flag ∷ flags) ≡ flag ∷ marked b (rows_from row p items) flags
+behind_first flag b p row [] flags = refl
+behind_first flag b p row (item ∷ items) flags = at (p item) (behind_first flag b p (row + 1) items flags) (behind_first flag b p (row + 1) items (slice_set flags row b))
   where
-    ps : List ℕ
-    ps = rows_from (row + 1) p items
+    at : (t : Bool) → marked b (rows_from ((row + 1) + 1) p items) (flag ∷ flags) ≡ flag ∷ marked b (rows_from (row + 1) p items) flags
+        → marked b (rows_from ((row + 1) + 1) p items) (flag ∷ slice_set flags row b) ≡ flag ∷ marked b (rows_from (row + 1) p items) (slice_set flags row b)
+        → marked b (cond t ((row + 1) ∷ rows_from ((row + 1) + 1) p items) (rows_from ((row + 1) + 1) p items)) (flag ∷ flags) ≡ flag ∷ marked b (cond t (row ∷ rows_from (row + 1) p items) (rows_from (row + 1) p items)) flags
+    at true plain set = subst (λ some. marked b (rows_from ((row + 1) + 1) p items) some ≡ flag ∷ marked b (rows_from (row + 1) p items) (slice_set flags row b)) (sym (set_behind flag b row flags)) set
+    at false plain set = plain
 
-    qs : List ℕ
-    qs = rows_from (row + 1) q items
-
-    both : List ℕ
-    both = rows_from (row + 1) (λ i. p i || q i) items
-
-    at : (a b : Bool) → with_rows ps qs ≡ both → with_rows (cond a (row ∷ ps) ps) (cond b (row ∷ qs) qs) ≡ cond (a || b) (row ∷ both) both
-    at true true e = ap (with_row row) (behind_first row ps qs (rows_above row (row + 1) p items (omega arith)) ∙ ap (λ xs. row ∷ xs) e) ∙ stays row both
-    at true false e = ap (with_row row) e ∙ in_front row both (rows_above row (row + 1) (λ i. p i || q i) items (omega arith))
-    at false true e = behind_first row ps qs (rows_above row (row + 1) p items (omega arith)) ∙ ap (λ xs. row ∷ xs) e
-    at false false e = e
-
-no_rows : (row : ℕ) (items : List Item) → [] ≡ rows_from row (λ item. false) items
-no_rows row [] = refl
-no_rows row (item ∷ items) = no_rows (row + 1) items
-
--- the union of the rows of tests is that of passing one of them
-union_of_tests : {C : Type 0} (test : C → Item → Bool) (items : List Item) (claims : List C) → union_of (map (λ claim. rows_from 0 (test claim) items) claims) ≡ rows_from 0 (λ item. list_any (λ claim. test claim item) claims) items
-union_of_tests test items [] = no_rows 0 items
-union_of_tests test items (claim ∷ claims) =
-    ap (with_rows (rows_from 0 (test claim) items)) (union_of_tests test items claims)
-    ∙ union_rows 0 (test claim) (λ item. list_any (λ c. test c item) claims) items
-
--- ---- differences
-
-not_there : (row : ℕ) (xs : List ℕ) → AllAbove row xs → is_row_of xs row ≡ false
-not_there row [] h = refl
-not_there row (x ∷ xs) h = let above = h.0 in let no : eqb row x ≡ false = grind (arith, nat_tests) in rw (no, not_there row xs h.1) refl
-
--- a row below all of xs takes nothing from them
-others_above : (row : ℕ) (xs ys : List ℕ) → AllAbove row xs → other_rows xs (row ∷ ys) ≡ other_rows xs ys
-others_above row [] ys h = refl
-others_above row (x ∷ xs) ys h =
-    let above = h.0 in
-    let no : eqb x row ≡ false = grind (arith, nat_tests) in
-    rw (no, others_above row xs ys h.1) refl
-
-difference_rows : (row : ℕ) (p q : Item → Bool) (items : List Item) → other_rows (rows_from row p items) (rows_from row q items) ≡ rows_from row (λ item. p item && not (q item)) items
-difference_rows row p q [] = refl
-difference_rows row p q (item ∷ items) = at (p item) (q item) (difference_rows (row + 1) p q items)
+-- the marks of the items that pass a test
+marked_items : (b : Bool) (p g : Item → Bool) (items : List Item) → marked b (rows_from 0 p items) (map g items) ≡ map (λ item. cond (p item) b (g item)) items
+marked_items b p g [] = refl
+marked_items b p g (item ∷ items) = at (p item) (marked_items b p g items)
   where
-    ps : List ℕ
-    ps = rows_from (row + 1) p items
-
-    qs : List ℕ
-    qs = rows_from (row + 1) q items
-
-    some : List ℕ
-    some = rows_from (row + 1) (λ i. p i && not (q i)) items
-
-    here : eqb row row ≡ true
-    here = grind (arith, nat_tests)
-
-    at : (a b : Bool) → other_rows ps qs ≡ some → other_rows (cond a (row ∷ ps) ps) (cond b (row ∷ qs) qs) ≡ cond (a && not b) (row ∷ some) some
-    at true true e = rw here (others_above row ps qs (rows_above row (row + 1) p items (omega arith)) ∙ e)
-    at true false e = rw (not_there row qs (rows_above row (row + 1) q items (omega arith))) (ap (λ xs. row ∷ xs) e)
-    at false true e = others_above row ps qs (rows_above row (row + 1) p items (omega arith)) ∙ e
-    at false false e = e
+    at : (t : Bool) → marked b (rows_from 0 p items) (map g items) ≡ map (λ i. cond (p i) b (g i)) items
+        → marked b (cond t (0 ∷ rows_from 1 p items) (rows_from 1 p items)) (g item ∷ map g items) ≡ cond t b (g item) ∷ map (λ i. cond (p i) b (g i)) items
+    at true h = behind_first b b p 0 items (map g items) ∙ ap (λ flags. b ∷ flags) h
+    at false h = behind_first (g item) b p 0 items (map g items) ∙ ap (λ flags. g item ∷ flags) h
 
 -- ---- what is admitted
 
@@ -145,16 +94,55 @@ same_map : {A B : Type 0} (f g : A → B) → ((x : A) → f x ≡ g x) → (xs 
 same_map f g same [] = refl
 same_map f g same (x ∷ xs) = λ i. same x i ∷ same_map f g same xs i
 
-pub admitted : (index : Indexed) (claims : List (List ℕ)) → AreAdmitted index claims (rows_left index claims)
+-- the marks of the items that pass one of the tests
+marked_tests : {C : Type 0} (b : Bool) (test : C → Item → Bool) (items : List Item) (claims : List C) (g : Item → Bool)
+    → marked_all b (map (λ claim. rows_from 0 (test claim) items) claims) (map g items) ≡ map (λ item. cond (list_any (λ claim. test claim item) claims) b (g item)) items
+marked_tests b test items [] g = refl
+marked_tests b test items (claim ∷ claims) g =
+    ap (marked_all b (map (λ c. rows_from 0 (test c) items) claims)) (marked_items b (test claim) g items)
+    ∙ (marked_tests b test items claims (λ item. cond (test claim item) b (g item))
+    ∙ same_map (λ item. cond (list_any (λ c. test c item) claims) b (cond (test claim item) b (g item))) (λ item. cond (list_any (λ c. test c item) (claim ∷ claims)) b (g item))
+    (λ item. either (test claim item) (list_any (λ c. test c item) claims) (g item)) items)
+  where
+    either : (s t u : Bool) → cond t b (cond s b u) ≡ cond (s || t) b u
+    either true true u = refl
+    either true false u = refl
+    either false t u = refl
+
+-- without marks no row is flagged
+no_flags : (items : List Item) → replicate (length (map row_of items)) false ≡ map (λ item. false) items
+no_flags [] = refl
+no_flags (item ∷ items) = ap (λ flags. false ∷ flags) (no_flags items)
+
+-- flags by a test are the rows that pass it
+flagged_items : (row : ℕ) (p : Item → Bool) (items : List Item) → flagged row (map p items) ≡ rows_from row p items
+flagged_items row p [] = refl
+flagged_items row p (item ∷ items) = ap (λ rows. cond (p item) (row ∷ rows) rows) (flagged_items (row + 1) p items)
+
+pub admitted : (index : Indexed) (claims : List (List ℕ)) → AreAdmitted index claims (flagged 0 (flags_by index claims))
 admitted index claims corpus valid stands =
     let items = corpus.items in
-    let allowed : union_of (map (claim_rows index false) claims) ≡ rows_from 0 (λ item. names_one item.allow claims) items =
-    ap union_of (same_map (claim_rows index false) (λ claim. rows_from 0 (allows claim) items) stands.allow claims) ∙ union_of_tests allows items claims in
-    let denied : union_of (map (claim_rows index true) claims) ≡ rows_from 0 (λ item. names_one item.deny claims) items =
-    ap union_of (same_map (claim_rows index true) (λ claim. rows_from 0 (denies claim) items) stands.deny claims) ∙ union_of_tests denies items claims in
-    ap (λ rows. other_rows rows (union_of (map (claim_rows index true) claims))) allowed
-    ∙ ap (other_rows (rows_from 0 (λ item. names_one item.allow claims) items)) denied
-    ∙ difference_rows 0 (λ item. names_one item.allow claims) (λ item. names_one item.deny claims) items
+    let denies_of = map (claim_rows index true) claims in
+    let allowed : map (claim_rows index false) claims ≡ map (λ claim. rows_from 0 (allows claim) items) claims =
+    same_map (claim_rows index false) (λ claim. rows_from 0 (allows claim) items) stands.allow claims in
+    let denied : map (claim_rows index true) claims ≡ map (λ claim. rows_from 0 (denies claim) items) claims =
+    same_map (claim_rows index true) (λ claim. rows_from 0 (denies claim) items) stands.deny claims in
+    let none : replicate (length index.rows) false ≡ map (λ item. false) items = ap (λ rows. replicate (length rows) false) stands.rows ∙ no_flags items in
+    let some : marked_all true (map (claim_rows index false) claims) (replicate (length index.rows) false) ≡ map (λ item. cond (names_one item.allow claims) true false) items =
+    ap (λ lists. marked_all true lists (replicate (length index.rows) false)) allowed
+    ∙ (ap (marked_all true (map (λ claim. rows_from 0 (allows claim) items) claims)) none ∙ marked_tests true allows items claims (λ item. false)) in
+    let all : flags_by index claims ≡ map (λ item. cond (names_one item.deny claims) false (cond (names_one item.allow claims) true false)) items =
+    ap (marked_all false denies_of) some
+    ∙ (ap (λ lists. marked_all false lists (map (λ item. cond (names_one item.allow claims) true false) items)) denied
+    ∙ marked_tests false denies items claims (λ item. cond (names_one item.allow claims) true false)) in
+    ap (flagged 0) (all ∙ same_map (λ item. cond (names_one item.deny claims) false (cond (names_one item.allow claims) true false)) (admits claims) (λ item. both (names_one item.allow claims) (names_one item.deny claims)) items)
+    ∙ flagged_items 0 (admits claims) items
+  where
+    both : (a d : Bool) → cond d false (cond a true false) ≡ a && not d
+    both true true = refl
+    both true false = refl
+    both false true = refl
+    both false false = refl
 
 -- ---- the cost
 

@@ -1,13 +1,13 @@
 -- The rows that claims admit.
-use Rattle.std.specs.Prelude.{◌≡◌, ◌≤◌, ℕ, ◌+◌, Bool, true, false, List, map, length, sum_by}
-use Rattle.sq_cursor.specs.Rows.{union_of, other_rows}
+use Rattle.std.specs.Prelude.{◌≡◌, ◌≤◌, ℕ, ◌+◌, Bool, true, false, List, map, length, sum_by, replicate}
 use Rattle.sq_model.specs.Access.{admits}
 use Rattle.sq_model.specs.Valid.{IsValid}
 use Rattle.sq_model.specs.declared.corpus.Corpus.{Corpus}
-use Rattle.sq_postings.specs.Cost.{claim_cost}
+use Rattle.sq_model.specs.Cost.{claim_cost}
 use Rattle.sq_postings.specs.Indexed.{Indexed, rows_with, claims_in}
 use Rattle.sq_postings.specs.Occurrences.{rows_from}
 use Rattle.sq_postings.specs.StandsFor.{StandsFor}
+use Rattle.sq_trim.specs.Flags.{marked_all}
 
 -- ---- by the index
 
@@ -19,9 +19,10 @@ claim_rows index denied claim = rows_with claim (claims_in index denied)
 abbrev pub claim_entries : Indexed → Bool → List (List ℕ) → ℕ
 claim_entries index denied claims = sum_by (λ claim. length (claim_rows index denied claim)) claims
 
--- the rows of a claim that admits, without those of a claim that denies
-abbrev pub rows_left : Indexed → List (List ℕ) → List ℕ
-rows_left index claims = other_rows (union_of (map (claim_rows index false) claims)) (union_of (map (claim_rows index true) claims))
+-- of each row whether a claim admits it and none denies it
+abbrev pub flags_by : Indexed → List (List ℕ) → List Bool
+flags_by index claims =
+    marked_all false (map (claim_rows index true) claims) (marked_all true (map (claim_rows index false) claims) (replicate (length index.rows) false))
 
 -- ---- by a corpus
 

@@ -26,19 +26,19 @@ struct Fixed {
 struct FixedAnswers;
 
 impl Engine for Fixed {
-    ghost schema = { λ f. f.service.schema };
+    ghost schema = { λ f. ⟦<Service as Engine>⟧.schema f.service };
 
-    ghost callers = { λ f. length f.service.callers };
+    ghost callers = { λ f. ⟦<Service as Engine>⟧.callers f.service };
 
-    ghost items = { λ f. length f.service.items };
+    ghost items = { λ f. ⟦<Service as Engine>⟧.items f.service };
 
-    ghost names = { λ f. knows f.service };
+    ghost names = { λ f. ⟦<Service as Engine>⟧.names f.service };
 
-    ghost says = { λ f. fixed_verdict (knows f.service) };
+    ghost says = { λ f. fixed_verdict (⟦<Service as Engine>⟧.names f.service) };
 
     ghost price = { λ f caller now request. 0 };
 
-    ghost unknown = { λ f. fixed_verdict-unknown (knows f.service) };
+    ghost unknown = { λ f. fixed_verdict-unknown (⟦<Service as Engine>⟧.names f.service) };
 
     fn schema(&self) -> &Schema {
         self.service.schema()

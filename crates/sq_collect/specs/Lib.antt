@@ -1,0 +1,5 @@
+pub mod Best
+pub mod Counted
+pub mod Laws
+pub mod Paged
+pub mod Refined

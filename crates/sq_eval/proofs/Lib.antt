@@ -1,0 +1,10 @@
+mod BoundLemmas
+mod BuildLemmas
+mod EdgeLemmas
+mod HitLemmas
+mod LeafLemmas
+mod NodeEquations
+mod NumberLemmas
+mod PlanLemmas
+mod ScoredLemmas
+mod TreeEquations

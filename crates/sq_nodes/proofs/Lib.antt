@@ -1,0 +1,6 @@
+mod NodeLemmas
+mod NumberLemmas
+mod PartLemmas
+mod RowLemmas
+mod SpanLemmas
+mod StreamLemmas
