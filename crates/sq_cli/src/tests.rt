@@ -11,6 +11,7 @@ mod corpora;
 mod failing;
 mod fixed;
 mod fql;
+mod hostile;
 mod kql;
 mod packets;
 mod served;
@@ -51,7 +52,7 @@ fn reply<S: Source, I: Source>(
     input: &mut I,
     failing: Vec<u32>,
 ) -> Result<String, AllocError> {
-    let mut out = MemSink::new(alloc, 10_000, failing)?;
+    let mut out = MemSink::new(alloc, 100_000, failing)?;
     let mut ports = no_ports(alloc)?;
     let status = status_of(alloc, words, corpus, input, &mut out, &mut ports);
     let text = String::from_utf8_lossy(alloc, out.bytes())?;
@@ -69,6 +70,15 @@ fn source_of(alloc: Global, text: &str, failing: Vec<u32>) -> Result<MemSource, 
             byte => byte,
         })?;
     }
+    source_of_bytes(alloc, bytes, failing)
+}
+
+/// These bytes, which come in small pieces at first.
+fn source_of_bytes(
+    alloc: Global,
+    bytes: Vec<u8>,
+    failing: Vec<u32>,
+) -> Result<MemSource, AllocError> {
     Ok(MemSource {
         bytes,
         pieces: Vec::from_slice(alloc, &[3, 1, 2])?,

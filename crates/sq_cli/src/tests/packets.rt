@@ -117,8 +117,8 @@ Ann||nothing|<SortByProperties><SortByProperty name='title'/></SortByProperties>
 Ann||debt|<SortByProperties><SortByProperty name='size' direction='Up'/></SortByProperties>|1 ERROR_BAD_REQUEST 514 BadDirection at 158
 Ann| type='FQL'|near(a,and(b,c))||1 ERROR_BAD_QUERY 308 NotInProximity at 7";
 
-/// The worked packet of the documents, as a client sends it, and its response byte for byte.
-const SENT: &str = "<?xml version=\"1.0\" encoding=\"utf-8\"?>
+/// The worked packet of the documents, as a client sends it.
+pub const SENT: &str = "<?xml version=\"1.0\" encoding=\"utf-8\"?>
 <QueryPacket xmlns=\"urn:Microsoft.Search.Query\" Revision=\"1000\">
  <Query domain=\"QDomain\">
   <SupportedFormats><Format>urn:Microsoft.Search.Response.Document.Document</Format></SupportedFormats>
@@ -131,7 +131,8 @@ const SENT: &str = "<?xml version=\"1.0\" encoding=\"utf-8\"?>
 </QueryPacket>
 ";
 
-const ANSWERED: &str =
+/// Its response byte for byte, and the status.
+pub const ANSWERED: &str =
     "0 <?xml version=\"1.0\" encoding=\"utf-8\"?><ResponsePacket xmlns=\"urn:Microsoft.Search.Response\"><Response><Range><StartAt>1</StartAt><Count>1</Count><TotalAvailable>1</TotalAvailable><Results><Document><Number>2</Number><Score>20</Score><Url>http://s/2</Url><Properties><Property><Name>title</Name><Value>Debt notes</Value></Property></Properties></Document></Results></Range><Status>SUCCESS</Status></Response></ResponsePacket>";
 
 #[test]

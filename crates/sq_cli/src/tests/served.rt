@@ -2,7 +2,8 @@
 //! each behind ` / `. In these `;` is the end of a line, CR LF.
 
 use super::corpora::WORKED;
-use super::packets::packet_of;
+use super::hostile::filled_packet;
+use super::packets::{ANSWERED, packet_of};
 use super::{MOMENT, source_of, status_of};
 use sq_base::{MemPorts, MemSink, MemSource, MemWire};
 use std::alloc::{AllocError, Global};
@@ -107,35 +108,79 @@ fn pieces_of_one_byte_change_nothing(rt: HostRuntime) -> Result<(), AllocError> 
 /// What a second connection is sent, whatever becomes of the first.
 const SECOND: &str = " / HTTP/1.1 404 Not Found;Content-Length: 0;Connection: close;;";
 
-/// What two connections are sent, of which the first asks a packet, and fails at these calls.
-fn after_a_failure(alloc: Global, reads: &[u32], writes: &[u32]) -> Result<String, AllocError> {
+/// What is sent on a first connection before its second request, which is its last, is answered.
+const FIRST: &str = "0 / HTTP/1.1 404 Not Found;Content-Length: 0;;";
+
+/// What two connections are sent, of which the first asks a packet behind a request that is refused, comes in pieces of so many
+/// bytes, and fails at these calls.
+fn after_a_failure(
+    alloc: Global,
+    piece: u32,
+    reads: &[u32],
+    writes: &[u32],
+) -> Result<String, AllocError> {
     let packet = packet_of(alloc, "", "debt", "")?;
     let length = packet.len();
     let request = format!(in alloc;
-        "POST /query HTTP/1.1\r\nX-Search-Caller: Ann\r\nContent-Length: {length}\r\nConnection: close\r\n\r\n{packet}"
+        "GET /x HTTP/1.1\r\n\r\nPOST /query HTTP/1.1\r\nX-Search-Caller: Ann\r\nContent-Length: {length}\r\nConnection: close\r\n\r\n{packet}"
     )?;
     let mut wires = Vec::new(alloc);
-    wires.push(wire_of(alloc, &request, 100, reads, writes)?)?;
+    wires.push(wire_of(alloc, &request, piece, reads, writes)?)?;
     wires.push(wire_of(alloc, "GET /x HTTP/1.0\r\n\r\n", 100, &[], &[])?)?;
     served(alloc, "2", wires, &[])
 }
 
-#[test]
-fn a_wire_that_fails_ends_alone(rt: HostRuntime) -> Result<(), AllocError> {
-    let alloc = rt.alloc();
-    let whole = after_a_failure(alloc, &[], &[])?;
-    assert!(rt; whole.starts_with("0 / HTTP/1.1 200 OK;") && whole.ends_with(SECOND));
-    for call in 0..3 {
-        let given = after_a_failure(alloc, &[call], &[])?;
-        assert_eq!(rt; given.strip_suffix(SECOND), Some("0 / "), "read {call}");
+/// The number of the first read that no run reaches: where an earlier one fails, all is sent that was owed before it, and the
+/// second connection is served.
+fn failing_reads(rt: &impl Abort, alloc: Global, piece: u32) -> Result<u32, AllocError> {
+    let whole = after_a_failure(alloc, piece, &[], &[])?;
+    let last = whole.strip_prefix(FIRST).unwrap_or("");
+    assert!(rt; last.starts_with("HTTP/1.1 200 OK;") && last.ends_with(SECOND));
+    for call in 0..1000 {
+        let given = after_a_failure(alloc, piece, &[call], &[])?;
+        if given.as_str() == whole.as_str() {
+            return Ok(call);
+        }
+        let sent = given.strip_suffix(SECOND).unwrap_or("");
+        assert!(rt; sent == "0 / " || sent == FIRST, "read {call}");
     }
-    for call in 0..3 {
-        let given = after_a_failure(alloc, &[], &[call])?;
+    Ok(1000)
+}
+
+/// The number of the first write that no run reaches: where an earlier one fails, a front part is sent, and the second
+/// connection is served.
+fn failing_writes(rt: &impl Abort, alloc: Global, piece: u32) -> Result<u32, AllocError> {
+    let whole = after_a_failure(alloc, piece, &[], &[])?;
+    for call in 0..1000 {
+        let given = after_a_failure(alloc, piece, &[], &[call])?;
+        if given.as_str() == whole.as_str() {
+            return Ok(call);
+        }
         let sent = given.strip_suffix(SECOND).unwrap_or("");
         assert!(rt;
             whole.starts_with(sent) && sent.starts_with("0 / "),
             "write {call}"
         );
+    }
+    Ok(1000)
+}
+
+#[test]
+fn a_wire_that_fails_to_read_ends_alone(rt: HostRuntime) -> Result<(), AllocError> {
+    let alloc = rt.alloc();
+    for piece in [1, 100, 10_000] {
+        let reads = failing_reads(&rt, alloc, piece)?;
+        assert!(rt; reads > 0 && reads < 1000, "pieces of {piece}");
+    }
+    Ok(())
+}
+
+#[test]
+fn a_wire_that_fails_to_write_ends_alone(rt: HostRuntime) -> Result<(), AllocError> {
+    let alloc = rt.alloc();
+    for piece in [1, 100, 10_000] {
+        let writes = failing_writes(&rt, alloc, piece)?;
+        assert!(rt; writes > 1 && writes < 1000, "pieces of {piece}");
     }
     Ok(())
 }
@@ -143,16 +188,43 @@ fn a_wire_that_fails_ends_alone(rt: HostRuntime) -> Result<(), AllocError> {
 #[test]
 fn an_accept_that_fails_ends_serving(rt: HostRuntime) -> Result<(), AllocError> {
     let alloc = rt.alloc();
-    for call in 0..2 {
+    let mut sent = String::new(alloc);
+    for call in 0..3 {
         let mut wires = Vec::new(alloc);
         for _ in 0..2 {
             wires.push(wire_of(alloc, "GET /x HTTP/1.0\r\n\r\n", 100, &[], &[])?)?;
         }
-        let mut want = String::from_str(alloc, "6")?;
-        for _ in 0..call {
-            want.push_str(SECOND)?;
-        }
+        let status = if call < 2 { 6 } else { 0 };
+        let want = format!(in alloc; "{status}{sent}")?;
         assert_eq!(rt; served(alloc, "2", wires, &[call])?.as_str(), want.as_str());
+        sent.push_str(SECOND)?;
     }
+    Ok(())
+}
+
+/// What one connection is sent that asks the worked packet, filled to this length.
+fn filled_reply(alloc: Global, length: usize) -> Result<String, AllocError> {
+    let packet = filled_packet(alloc, length)?;
+    let request = format!(in alloc;
+        "POST /query HTTP/1.1\r\nX-Search-Caller: Ann\r\nContent-Length: {length}\r\nConnection: close\r\n\r\n{packet}"
+    )?;
+    let mut wires = Vec::new(alloc);
+    wires.push(wire_of(alloc, &request, 10_000, &[], &[])?)?;
+    served(alloc, "1", wires, &[])
+}
+
+#[test]
+fn a_body_that_a_comment_fills_is_answered(rt: HostRuntime) -> Result<(), AllocError> {
+    let alloc = rt.alloc();
+    let answer = ANSWERED.strip_prefix("0 ").unwrap_or("");
+    let length = answer.len();
+    let want = format!(in alloc;
+        "0 / HTTP/1.1 200 OK;Content-Type: text/xml; charset=utf-8;Content-Length: {length};Connection: close;;{answer}"
+    )?;
+    assert_eq!(rt; filled_reply(alloc, 131_072)?.as_str(), want.as_str());
+    assert_eq!(rt;
+        filled_reply(alloc, 131_073)?.as_str(),
+        "0 / HTTP/1.1 413 Payload Too Large;Content-Length: 0;Connection: close;;"
+    );
     Ok(())
 }
