@@ -1,15 +1,33 @@
-ghost use Rattle.std.specs.Prelude.{◌≡◌, IfOk};
-ghost use Rattle.sq_model.specs.Valid.{IsValid};
+ghost use Rattle.std.specs.Prelude.{◌≡◌, true, IfOk};
+ghost use Rattle.std.specs.List.{list_all};
+ghost use Rattle.sq_model.specs.Valid.{IsValid, is_item};
+ghost use Rattle.sq_stored.specs.Stored.{stored_items};
 ghost use Rattle.sq_holding.specs.Holds.{Holds, IsHeld};
 
 use sq_base::List;
 use sq_build::build_index;
-use sq_model::{Caller, Corpus};
+use sq_model::{Caller, Corpus, Item};
 use sq_postings::Index;
 use sq_schema::Schema;
 use sq_stored::Stored;
 use std::alloc::{AllocError, Global};
+use std::collections::VecDeque;
 use std::marker::Model;
+
+/// What is stored of items, each of which is let go as soon as its own url and values are kept: so the memory of the
+/// items behind is there for the texts that are kept.
+fn stored_of(alloc: Global, schema: &Schema, items: List<Item>) -> Result<Stored, AllocError>
+    requires { list_all (is_item schema.now) items ≡ true }
+    ensures { IfOk result (λ stored. stored ≡ stored_items schema.now items) }
+{
+    let mut stored = Stored::new(alloc);
+    let mut left = VecDeque::from_vec(items.into_vec());
+    while let Some(item) = left.pop_front() {
+        stored.push(alloc, &item, schema)?;
+    }
+    stored.shrink();
+    Ok(stored)
+}
 
 /// The schema and callers of a valid corpus, its index and its stored values, and nothing else of it.
 #[derive(Drop)]
@@ -40,10 +58,15 @@ impl Holding {
         ensures { IfOk result (λ holding. Holds holding corpus) }
     {
         let index = build_index(alloc, &corpus)?;
-        let stored = Stored::build(alloc, &corpus)?;
+        let Corpus {
+            schema,
+            callers,
+            items,
+        } = corpus;
+        let stored = stored_of(alloc, &schema, items)?;
         Ok(Holding {
-            schema: corpus.schema,
-            callers: corpus.callers,
+            schema,
+            callers,
             index,
             stored,
         })

@@ -1,5 +1,5 @@
 -- Lowering by the parts of a tree as a list, as code meets them.
-use Rattle.std.proofs.Common.{◌≡◌, ℕ, Bool, List, [], ◌∷◌, map, refl, ap, ◌∙◌, ℤ}
+use Rattle.std.proofs.Common.{◌≡◌, ℕ, Bool, List, [], ◌∷◌, map, refl, ap, ap₂, sym, ◌∙◌, ℤ}
 use Rattle.sq_schema.specs.declared.property.Property.{Property}
 use Rattle.sq_model.specs.declared.kql.Joiner.{Joiner}
 use Rattle.sq_model.specs.declared.kql.KOperand.{KOperand}
@@ -47,5 +47,12 @@ module _ (schema : List Property) (joiner : Joiner) where
       lowered schema joiner (Xrank matched ranked cb) ≡ apply (op.Xrank cb) (lowered schema joiner matched ∷ lowered schema joiner ranked ∷ [])
   unfolding shape-the_row-KTree-0 hidden-the_row-KTree-0 denote.Hole.Carrier.hidden
   lowered_xrank matched ranked cb = refl
+
+-- a tree of two parts, from parts that are these
+pub near_again : (t x y left right : KTree) (n : ℕ) (ordered : Bool) → t ≡ Near left right n ordered → x ≡ left → y ≡ right → Near x y n ordered ≡ t
+near_again t x y left right n ordered is first second = ap₂ (λ l r. Near l r n ordered) first second ∙ sym is
+
+pub xrank_again : (t x y matched ranked : KTree) (cb read : ℤ) → t ≡ Xrank matched ranked cb → x ≡ matched → y ≡ ranked → read ≡ cb → Xrank x y read ≡ t
+xrank_again t x y matched ranked cb read is first second same = ap₂ (λ l r. Xrank l r read) first second ∙ (ap (λ b. Xrank matched ranked b) same ∙ sym is)
 
 pub ruleset lowered_rules = (lowered_group, lowered_near, lowered_run, lowered_and, lowered_or, lowered_xrank)

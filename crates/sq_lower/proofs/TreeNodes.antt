@@ -44,21 +44,13 @@ module _ {t : KTree} where
   unfolding shape-the_row-KTree-0 hidden-the_row-KTree-0 denote.Hole.Carrier.hidden
   nodes_group x inside is same = rw (is, same) (omega arith)
 
-  pub nodes_left : (x left right : KTree) (n : ℕ) (ordered : Bool) → t ≡ Near left right n ordered → x ≡ left → nodes x < nodes t
+  pub nodes_near : (x y left right : KTree) (n : ℕ) (ordered : Bool) → t ≡ Near left right n ordered → x ≡ left → y ≡ right → nodes x + nodes y < nodes t
   unfolding shape-the_row-KTree-0 hidden-the_row-KTree-0 denote.Hole.Carrier.hidden
-  nodes_left x left right n ordered is same = rw (is, same) (omega arith)
+  nodes_near x y left right n ordered is first second = rw (is, first, second) (omega arith)
 
-  pub nodes_right : (x left right : KTree) (n : ℕ) (ordered : Bool) → t ≡ Near left right n ordered → x ≡ right → nodes x < nodes t
+  pub nodes_xrank : (x y matched ranked : KTree) (cb : ℤ) → t ≡ Xrank matched ranked cb → x ≡ matched → y ≡ ranked → nodes x + nodes y < nodes t
   unfolding shape-the_row-KTree-0 hidden-the_row-KTree-0 denote.Hole.Carrier.hidden
-  nodes_right x left right n ordered is same = rw (is, same) (omega arith)
-
-  pub nodes_matched : (x matched ranked : KTree) (cb : ℤ) → t ≡ Xrank matched ranked cb → x ≡ matched → nodes x < nodes t
-  unfolding shape-the_row-KTree-0 hidden-the_row-KTree-0 denote.Hole.Carrier.hidden
-  nodes_matched x matched ranked cb is same = rw (is, same) (omega arith)
-
-  pub nodes_ranked : (x matched ranked : KTree) (cb : ℤ) → t ≡ Xrank matched ranked cb → x ≡ ranked → nodes x < nodes t
-  unfolding shape-the_row-KTree-0 hidden-the_row-KTree-0 denote.Hole.Carrier.hidden
-  nodes_ranked x matched ranked cb is same = rw (is, same) (omega arith)
+  nodes_xrank x y matched ranked cb is first second = rw (is, first, second) (omega arith)
 
   pub nodes_and : (ts parts : List KTree) → t ≡ And parts → ts ≡ parts → all_nodes ts < nodes t
   nodes_and ts parts is same = rw (is, same) (omega (arith, all_of_list parts))
@@ -69,7 +61,7 @@ module _ {t : KTree} where
   pub nodes_run : (ts operands : List KOperand) → t ≡ Run operands → ts ≡ operands → all_operand_nodes ts < nodes t
   nodes_run ts operands is same = rw (is, same) (omega (arith, all_of_operand_list operands))
 
--- the measures of a part, of a list, of a run, and of a part of each
+-- the measures of a part, of a list or two parts, of a run, and of a part of each
 pub below : (a b t : ℕ) → a < b → 3 * b ≡ t → 3 * a < t
 below a b t less is = omega arith
 
@@ -84,3 +76,9 @@ below_list a b t less is = omega arith
 
 pub below_run : (a b t : ℕ) → a ≤ b → 3 * b + 2 ≡ t → 3 * a < t
 below_run a b t less is = omega arith
+
+pub first_below : (a b t : ℕ) → 3 * (a + b) + 1 ≡ t → 3 * a < t
+first_below a b t is = omega arith
+
+pub second_below : (a b t : ℕ) → 3 * (a + b) + 1 ≡ t → 3 * b < t
+second_below a b t is = omega arith

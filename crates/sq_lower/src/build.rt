@@ -1,4 +1,4 @@
-//! Parts of FQL trees. Each stands at place 0.
+//! Parts of FQL trees. Each stands at place 0. What lowering calls on its way through a tree is kept out of its frames.
 
 ghost use Rattle.std.specs.Prelude.{◌≡◌, [], ◌∷◌, map, IfOk};
 ghost use Rattle.sq_lower.specs.Lowered as spec;
@@ -70,6 +70,7 @@ fn leaf_literal(alloc: Global, leaf: &Leaf) -> Result<FRaw, AllocError>
 }
 
 /// `string("..")`.
+#[inline(never)]
 pub(crate) fn phrase(alloc: Global, leaf: &Leaf) -> Result<FRaw, AllocError>
     ensures { IfOk result (λ raw. raw ≡ spec.phrase leaf.now) }
 {
@@ -94,6 +95,7 @@ fn literals(alloc: Global, leaves: &[Leaf]) -> Result<List<FRaw>, AllocError>
 }
 
 /// `words("..","..")`.
+#[inline(never)]
 pub(crate) fn words(alloc: Global, leaves: &[Leaf]) -> Result<FRaw, AllocError>
     ensures { IfOk result (λ raw. raw ≡ spec.words leaves.now) }
 {
@@ -101,6 +103,7 @@ pub(crate) fn words(alloc: Global, leaves: &[Leaf]) -> Result<FRaw, AllocError>
     Ok(apply(Op::Words, operands))
 }
 
+#[inline(never)]
 pub(crate) fn near(
     alloc: Global,
     n: u32,
@@ -113,6 +116,14 @@ pub(crate) fn near(
     let operands = two(alloc, left, right)?;
     let op = if ordered { Op::Onear(n) } else { Op::Near(n) };
     Ok(apply(op, operands))
+}
+
+#[inline(never)]
+pub(crate) fn xrank(alloc: Global, cb: i64, matched: FRaw, ranked: FRaw) -> Result<FRaw, AllocError>
+    ensures { IfOk result (λ raw. raw ≡ spec.apply (Op.Xrank cb) (matched ∷ ranked ∷ [])) }
+{
+    let operands = two(alloc, matched, ranked)?;
+    Ok(apply(Op::Xrank { cb }, operands))
 }
 
 /// The numbers between two, each of which is one of them or not.

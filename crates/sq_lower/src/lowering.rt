@@ -1,4 +1,5 @@
-//! Lowering.
+//! Lowering. A tree may nest to the greatest depth that its language allows, so `tree_of` only chooses, and what
+//! an arm holds stands in a function of its own: the slots of all arms would else lie in each frame on the way down.
 
 ghost use Rattle.std.specs.Prelude.{◌≡◌, All, map, IfOk, IsOk};
 ghost use Rattle.sq_model.specs.declared.kql.KTree.TheVariants as tree;
@@ -8,7 +9,7 @@ ghost use Rattle.sq_typing.specs.Fql.{fql_typed};
 ghost use Rattle.sq_lower.specs.Lowered.{lowered, operand_form};
 ghost use Rattle.sq_lower.specs.Runs.{is_gathered, forms_of};
 
-use crate::build::{alone_or, apply, near, phrase, two, words};
+use crate::build::{alone_or, apply, near, phrase, words, xrank};
 use crate::restrictions::{text_test, value_test};
 use crate::runs::{add, empty_run, form_of, gathers};
 use sq_base::List;
@@ -26,73 +27,109 @@ fn tree_of(alloc: Global, tree: &KTree, schema: &Schema, joiner: Joiner) -> Resu
     ensures { IfOk result (λ raw. raw ≡ lowered schema.now joiner tree.now) }
 {
     match tree {
-        KTree::Free(leaf) => {
-            let form = phrase(alloc, leaf)?;
-            Ok(form)
-        }
+        KTree::Free(leaf) => phrase(alloc, leaf),
         KTree::All => Ok(FRaw::All(0)),
-        KTree::Words(leaves) => {
-            let form = words(alloc, leaves.as_slice())?;
-            Ok(form)
-        }
-        KTree::Group(inside) => {
-            let form = tree_of(alloc, inside.get(), schema, joiner)?;
-            Ok(form)
-        }
+        KTree::Words(leaves) => words(alloc, leaves.as_slice()),
+        KTree::Group(inside) => tree_of(alloc, inside.get(), schema, joiner),
         KTree::TextTest {
             property,
             relation,
             leaf,
-        } => {
-            let form = text_test(alloc, schema, *property, *relation, leaf)?;
-            Ok(form)
-        }
+        } => text_test(alloc, schema, *property, *relation, leaf),
         KTree::ValueTest {
             property,
             relation,
             first,
             last,
-        } => {
-            let form = value_test(alloc, schema, *property, *relation, *first, *last)?;
-            Ok(form)
-        }
+        } => value_test(alloc, schema, *property, *relation, *first, *last),
         KTree::Near {
             left,
             right,
             n,
             ordered,
-        } => {
-            let left = tree_of(alloc, left.get(), schema, joiner)?;
-            let right = tree_of(alloc, right.get(), schema, joiner)?;
-            let form = near(alloc, *n, *ordered, left, right)?;
-            Ok(form)
-        }
-        KTree::Run(operands) => {
-            let form = run_of(alloc, operands.as_slice(), schema, joiner)?;
-            Ok(form)
-        }
-        KTree::And(parts) => {
-            let parts = trees_of(alloc, parts.as_slice(), schema, joiner)?;
-            Ok(apply(Op::And, parts))
-        }
-        KTree::Or(parts) => {
-            let parts = trees_of(alloc, parts.as_slice(), schema, joiner)?;
-            Ok(apply(Op::Or, parts))
-        }
+        } => near_form(alloc, left.get(), right.get(), *n, *ordered, schema, joiner),
+        KTree::Run(operands) => run_of(alloc, operands.as_slice(), schema, joiner),
+        KTree::And(parts) => all_form(alloc, parts.as_slice(), schema, joiner),
+        KTree::Or(parts) => some_form(alloc, parts.as_slice(), schema, joiner),
         KTree::Xrank {
             matched,
             ranked,
             cb,
-        } => {
-            let matched = tree_of(alloc, matched.get(), schema, joiner)?;
-            let ranked = tree_of(alloc, ranked.get(), schema, joiner)?;
-            let operands = two(alloc, matched, ranked)?;
-            Ok(apply(Op::Xrank { cb: *cb }, operands))
-        }
+        } => xrank_form(alloc, matched.get(), ranked.get(), *cb, schema, joiner),
     }
 }
 
 #[cycle(lowered)]
+#[inline(never)]
+fn near_form(
+    alloc: Global,
+    left: &KTree,
+    right: &KTree,
+    n: u32,
+    ordered: bool,
+    schema: &Schema,
+    joiner: Joiner,
+) -> Result<FRaw, AllocError>
+    requires { PartsSound schema.now (tree.Near left.now right.now n ordered) }
+    ensures { IfOk result (λ raw. raw ≡ lowered schema.now joiner (tree.Near left.now right.now n ordered)) }
+{
+    let left_form = tree_of(alloc, left, schema, joiner)?;
+    let right_form = tree_of(alloc, right, schema, joiner)?;
+    near(alloc, n, ordered, left_form, right_form)
+}
+
+#[cycle(lowered)]
+#[inline(never)]
+fn xrank_form(
+    alloc: Global,
+    matched: &KTree,
+    ranked: &KTree,
+    cb: i64,
+    schema: &Schema,
+    joiner: Joiner,
+) -> Result<FRaw, AllocError>
+    requires { PartsSound schema.now (tree.Xrank matched.now ranked.now cb) }
+    ensures { IfOk result (λ raw. raw ≡ lowered schema.now joiner (tree.Xrank matched.now ranked.now cb)) }
+{
+    let matched_form = tree_of(alloc, matched, schema, joiner)?;
+    let ranked_form = tree_of(alloc, ranked, schema, joiner)?;
+    xrank(alloc, cb, matched_form, ranked_form)
+}
+
+#[cycle(lowered)]
+#[tactic(auto, using(crate::proofs::TreeEquations::lowered_rules))]
+#[inline(never)]
+fn all_form(
+    alloc: Global,
+    parts: &[KTree],
+    schema: &Schema,
+    joiner: Joiner,
+) -> Result<FRaw, AllocError>
+    requires { All (PartsSound schema.now) parts.now }
+    ensures { IfOk result (λ raw. raw ≡ lowered schema.now joiner (tree.And parts.now)) }
+{
+    let forms = trees_of(alloc, parts, schema, joiner)?;
+    Ok(apply(Op::And, forms))
+}
+
+#[cycle(lowered)]
+#[tactic(auto, using(crate::proofs::TreeEquations::lowered_rules))]
+#[inline(never)]
+fn some_form(
+    alloc: Global,
+    parts: &[KTree],
+    schema: &Schema,
+    joiner: Joiner,
+) -> Result<FRaw, AllocError>
+    requires { All (PartsSound schema.now) parts.now }
+    ensures { IfOk result (λ raw. raw ≡ lowered schema.now joiner (tree.Or parts.now)) }
+{
+    let forms = trees_of(alloc, parts, schema, joiner)?;
+    Ok(apply(Op::Or, forms))
+}
+
+#[cycle(lowered)]
+#[inline(never)]
 fn trees_of(
     alloc: Global,
     parts: &[KTree],
@@ -112,6 +149,7 @@ fn trees_of(
 
 /// The forms of the operands that are gathered to one.
 #[cycle(lowered)]
+#[inline(never)]
 fn gathered_of(
     alloc: Global,
     operands: &[KOperand],
@@ -133,6 +171,7 @@ fn gathered_of(
 
 /// The gathered operands stand in the place of the first of them.
 #[cycle(lowered)]
+#[inline(never)]
 fn run_of(
     alloc: Global,
     operands: &[KOperand],

@@ -51,6 +51,7 @@ fn text_form(alloc: Global, name: &str, relation: Relation, leaf: &Leaf) -> Resu
 }
 
 /// A restriction of a text property.
+#[inline(never)]
 pub(crate) fn text_test(
     alloc: Global,
     schema: &Schema,
@@ -212,6 +213,7 @@ fn value_form(
 }
 
 /// A restriction of a property of numbers, whose values are the numbers from `first` to `last`.
+#[inline(never)]
 pub(crate) fn value_test(
     alloc: Global,
     schema: &Schema,

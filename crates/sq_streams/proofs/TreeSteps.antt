@@ -45,6 +45,9 @@ module _ (index : Indexed) (look : Look) where
   pub nothing_price : (leaf : Literal) (v before after : ℕ) → after ≤ before → IsWithinPrice index look (Leaf leaf) v before after
   nothing_price leaf v before after h corpus valid stands = omega (arith, h)
 
+  pub price_less : (tree : SpanTree) (v before after rest : ℕ) → IsWithinPrice index look tree v before (after + rest) → IsWithinPrice index look tree v before after
+  price_less tree v before after rest h corpus valid stands = without after rest (before + price corpus look tree v) (h corpus valid stands)
+
   -- ---- unions
 
   pub union_price : (parts slice : List SpanTree) (vs : List ℕ) (v before paid after : ℕ) → slice ≡ parts → vs ≡ map (λ _. v) slice → after ≤ paid →

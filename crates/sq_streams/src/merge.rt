@@ -42,3 +42,20 @@ pub(crate) fn merge_of<C: SpanCursor + Drop, L: Ledger>(
         None => Err(AllocError),
     }
 }
+
+/// The same in a box, which alone stands in a caller's frame.
+#[inline(never)]
+pub(crate) fn boxed_merge<C: SpanCursor + Drop, L: Ledger>(
+    alloc: Global,
+    parts: Vec<Stream<C>>,
+    steps: &mut Steps<L>,
+) -> Result<Box<Stream<C>>, AllocError>
+    ensures left { IfOk result (λ stream. stream_left C.left stream.value ≡ merged_spans (map (stream_left C.left) parts.items)) }
+    ensures cost { MatchResult result
+        (λ stream. steps.new + stream_rest C.rest stream.value ≤ steps.old + sum_by (stream_rest C.rest) parts.items)
+        (λ _. steps.new ≤ steps.old + sum_by (stream_rest C.rest) parts.items) }
+{
+    let stream = merge_of(alloc, parts, steps)?;
+    let own = Box::new(alloc, stream)?;
+    Ok(own)
+}

@@ -1,5 +1,7 @@
-//! The streams of proximity expressions, one for each weight of the matches.
-ghost use Rattle.std.specs.Prelude.{◌≡◌, ◌+◌, ◌<◌, ◌≤◌, length, map, slice_index_or, sum_by, IfOk, MatchResult};
+//! The streams of proximity expressions, one for each weight of the matches. An expression may nest to the greatest
+//! depth that its language allows, so the functions that lead back to `stream_of` keep no stream in their frames:
+//! streams stand in boxes, and what makes, pushes, joins and merges them is not put into its caller's frame.
+ghost use Rattle.std.specs.Prelude.{◌≡◌, ◌+◌, ◌<◌, ◌≤◌, ◌++◌, ◌∷◌, [], length, map, slice_index_or, sum_by, IfOk, OnOk, MatchResult};
 ghost use Rattle.sq_least.specs.Dense.{weights_of_sum};
 ghost use Rattle.sq_model.specs.Copies.{weights};
 ghost use Rattle.sq_model.specs.declared.fql.SpanTree.{Leaf as LeafOf, Near, Union};
@@ -11,7 +13,7 @@ ghost use Rattle.sq_streams.specs.TreePrices.{IsWithinPrice, IsWithinChoices, Is
 ghost use Rattle.sq_streams.specs.TreeStreams.{IsStreamFor, EachStreamFor, EachJoinFor, EachWeightFor};
 
 use crate::laws;
-use crate::merge::merge_of;
+use crate::merge::{boxed_merge, merge_of};
 use crate::pattern::pattern_stream;
 use crate::weights::{choices_with, weights_of};
 use sq_base::{List, Steps};
@@ -52,6 +54,36 @@ fn leaf_at<'a, L: Ledger>(
     }
 }
 
+#[inline(never)]
+fn boxed_leaf<'a, L: Ledger>(
+    alloc: Global,
+    index: &'a Index,
+    look: Look,
+    leaf: &Leaf,
+    v: u32,
+    steps: &mut Steps<L>,
+) -> Result<Box<Stream<PostCursor<'a>>>, AllocError>
+    ensures left { IfOk result (λ stream. IsStreamFor index.now look (LeafOf leaf.now) v (stream_left ⟦<PostCursor<'a> as SpanCursor>⟧.left stream.value)) }
+    ensures cost { MatchResult result
+        (λ stream. IsWithinPrice index.now look (LeafOf leaf.now) v steps.old (steps.new + stream_rest ⟦<PostCursor<'a> as SpanCursor>⟧.rest stream.value))
+        (λ _. IsWithinPrice index.now look (LeafOf leaf.now) v steps.old steps.new) }
+{
+    let stream = leaf_at(alloc, index, look, leaf, v, steps)?;
+    let own = Box::new(alloc, stream)?;
+    Ok(own)
+}
+
+#[inline(never)]
+fn push_stream<C: SpanCursor + Drop>(
+    streams: &mut Vec<Stream<C>>,
+    stream: Box<Stream<C>>,
+) -> Result<(), AllocError>
+    ensures { OnOk result (streams.new.items ≡ streams.old.items ++ stream.value ∷ []) }
+{
+    streams.push(Box::into_inner(stream))?;
+    Ok(())
+}
+
 /// The weight once for each part.
 fn once_for_each(alloc: Global, v: u32, parts: &[SpanTree]) -> Result<Vec<u32>, AllocError>
     ensures { IfOk result (λ weights. weights.items ≡ map (λ _. v) parts.now) }
@@ -70,8 +102,9 @@ fn weight_at(weights: &[u32], at: usize) -> u32
     weights[at]
 }
 
-/// The stream of one weight of an expression.
+/// The stream of one weight of an expression. It only hands on, so its caller takes it in.
 #[cycle(stream_of)]
+#[inline]
 fn stream_of<'a, L: Ledger>(
     alloc: Global,
     index: &'a Index,
@@ -79,14 +112,14 @@ fn stream_of<'a, L: Ledger>(
     tree: &SpanTree,
     v: u32,
     steps: &mut Steps<L>,
-) -> Result<Stream<PostCursor<'a>>, AllocError>
-    ensures left { IfOk result (λ stream. IsStreamFor index.now look tree.now v (stream_left ⟦<PostCursor<'a> as SpanCursor>⟧.left stream)) }
+) -> Result<Box<Stream<PostCursor<'a>>>, AllocError>
+    ensures left { IfOk result (λ stream. IsStreamFor index.now look tree.now v (stream_left ⟦<PostCursor<'a> as SpanCursor>⟧.left stream.value)) }
     ensures cost { MatchResult result
-        (λ stream. IsWithinPrice index.now look tree.now v steps.old (steps.new + stream_rest ⟦<PostCursor<'a> as SpanCursor>⟧.rest stream))
+        (λ stream. IsWithinPrice index.now look tree.now v steps.old (steps.new + stream_rest ⟦<PostCursor<'a> as SpanCursor>⟧.rest stream.value))
         (λ _. IsWithinPrice index.now look tree.now v steps.old steps.new) }
 {
     match tree {
-        SpanTree::Leaf(leaf) => leaf_at(alloc, index, look, leaf, v, steps),
+        SpanTree::Leaf(leaf) => boxed_leaf(alloc, index, look, leaf, v, steps),
         SpanTree::Union(parts) => union_at(alloc, index, look, parts, v, steps),
         SpanTree::Near { parts, n, ordered } => {
             near_at(alloc, index, look, parts, *n, *ordered, v, steps)
@@ -96,6 +129,7 @@ fn stream_of<'a, L: Ledger>(
 
 /// The streams of expressions, each of the weight that stands at its place.
 #[cycle(stream_of)]
+#[inline(never)]
 fn parts_at<'a, L: Ledger>(
     alloc: Global,
     index: &'a Index,
@@ -114,7 +148,7 @@ fn parts_at<'a, L: Ledger>(
     let mut at = 0;
     for part in parts {
         let stream = stream_of(alloc, index, look, part, weight_at(weights, at), steps)?;
-        streams.push(stream)?;
+        push_stream(&mut streams, stream)?;
         at += 1;
     }
     Ok(streams)
@@ -122,6 +156,7 @@ fn parts_at<'a, L: Ledger>(
 
 /// The merge of the parts' streams of the weight.
 #[cycle(stream_of)]
+#[inline(never)]
 fn union_at<'a, L: Ledger>(
     alloc: Global,
     index: &'a Index,
@@ -129,10 +164,10 @@ fn union_at<'a, L: Ledger>(
     parts: &List<SpanTree>,
     v: u32,
     steps: &mut Steps<L>,
-) -> Result<Stream<PostCursor<'a>>, AllocError>
-    ensures left { IfOk result (λ stream. IsStreamFor index.now look (Union parts.now) v (stream_left ⟦<PostCursor<'a> as SpanCursor>⟧.left stream)) }
+) -> Result<Box<Stream<PostCursor<'a>>>, AllocError>
+    ensures left { IfOk result (λ stream. IsStreamFor index.now look (Union parts.now) v (stream_left ⟦<PostCursor<'a> as SpanCursor>⟧.left stream.value)) }
     ensures cost { MatchResult result
-        (λ stream. IsWithinPrice index.now look (Union parts.now) v steps.old (steps.new + stream_rest ⟦<PostCursor<'a> as SpanCursor>⟧.rest stream))
+        (λ stream. IsWithinPrice index.now look (Union parts.now) v steps.old (steps.new + stream_rest ⟦<PostCursor<'a> as SpanCursor>⟧.rest stream.value))
         (λ _. IsWithinPrice index.now look (Union parts.now) v steps.old steps.new) }
 {
     laws::unions_are_streams();
@@ -141,7 +176,7 @@ fn union_at<'a, L: Ledger>(
     let each = weights.as_slice();
     let streams = parts_at(alloc, index, look, slice, each, steps)?;
     tell_order(&streams);
-    let stream = merge_of(alloc, streams, steps)?;
+    let stream = boxed_merge(alloc, streams, steps)?;
     Ok(stream)
 }
 
@@ -164,6 +199,25 @@ fn join_of<C: SpanCursor + Drop, L: Ledger>(
     };
     let joined = Joined::new(alloc, parts, width, ordered, steps)?;
     Ok(Stream::Joined(joined))
+}
+
+#[inline(never)]
+fn boxed_join<C: SpanCursor + Drop, L: Ledger>(
+    alloc: Global,
+    parts: Vec<Stream<C>>,
+    n: u32,
+    ordered: bool,
+    v: u32,
+    steps: &mut Steps<L>,
+) -> Result<Box<Stream<C>>, AllocError>
+    ensures left { IfOk result (λ stream. stream_left C.left stream.value ≡ joined_spans (n + v) ordered (map (stream_left C.left) parts.items)) }
+    ensures cost { MatchResult result
+        (λ stream. steps.new + stream_rest C.rest stream.value ≤ steps.old + sum_by (stream_rest C.rest) parts.items)
+        (λ _. steps.new ≤ steps.old + sum_by (stream_rest C.rest) parts.items) }
+{
+    let stream = join_of(alloc, parts, n, ordered, v, steps)?;
+    let own = Box::new(alloc, stream)?;
+    Ok(own)
 }
 
 /// The joins for each of the choices of weights, which have the sum `v`.
@@ -190,14 +244,15 @@ fn joins_at<'a, L: Ledger>(
     for choice in choices {
         let streams = parts_at(alloc, index, look, parts, choice.as_slice(), steps)?;
         tell_order(&streams);
-        let join = join_of(alloc, streams, n, ordered, v, steps)?;
-        joins.push(join)?;
+        let join = boxed_join(alloc, streams, n, ordered, v, steps)?;
+        push_stream(&mut joins, join)?;
     }
     Ok(joins)
 }
 
 /// The merge of the joins for all choices of one weight of each part that have the sum `v`.
 #[cycle(stream_of)]
+#[inline(never)]
 fn near_at<'a, L: Ledger>(
     alloc: Global,
     index: &'a Index,
@@ -207,10 +262,10 @@ fn near_at<'a, L: Ledger>(
     ordered: bool,
     v: u32,
     steps: &mut Steps<L>,
-) -> Result<Stream<PostCursor<'a>>, AllocError>
-    ensures left { IfOk result (λ stream. IsStreamFor index.now look (Near parts.now n ordered) v (stream_left ⟦<PostCursor<'a> as SpanCursor>⟧.left stream)) }
+) -> Result<Box<Stream<PostCursor<'a>>>, AllocError>
+    ensures left { IfOk result (λ stream. IsStreamFor index.now look (Near parts.now n ordered) v (stream_left ⟦<PostCursor<'a> as SpanCursor>⟧.left stream.value)) }
     ensures cost { MatchResult result
-        (λ stream. IsWithinPrice index.now look (Near parts.now n ordered) v steps.old (steps.new + stream_rest ⟦<PostCursor<'a> as SpanCursor>⟧.rest stream))
+        (λ stream. IsWithinPrice index.now look (Near parts.now n ordered) v steps.old (steps.new + stream_rest ⟦<PostCursor<'a> as SpanCursor>⟧.rest stream.value))
         (λ _. IsWithinPrice index.now look (Near parts.now n ordered) v steps.old steps.new) }
 {
     laws::nears_are_streams();
@@ -219,7 +274,7 @@ fn near_at<'a, L: Ledger>(
     let each = choices.as_slice();
     let joins = joins_at(alloc, index, look, slice, n, ordered, v, each, steps)?;
     tell_order(&joins);
-    let stream = merge_of(alloc, joins, steps)?;
+    let stream = boxed_merge(alloc, joins, steps)?;
     Ok(stream)
 }
 
@@ -264,7 +319,7 @@ fn streams_at<'a, L: Ledger>(
     let mut at = 0;
     for _weight in weights {
         let stream = stream_of(alloc, index, look, tree, weight_at(weights, at), steps)?;
-        streams.push(stream)?;
+        push_stream(&mut streams, stream)?;
         at += 1;
     }
     Ok(streams)

@@ -20,6 +20,7 @@ fn put_last(found: &mut Vec<u32>, weight: u32) -> Result<(), AllocError>
     Ok(())
 }
 
+#[inline(never)]
 fn put_all(found: &mut Vec<u32>, more: &[u32]) -> Result<(), AllocError>
     ensures { OnOk result (found.new.items ≡ with_all found.old.items more.now) }
 {
@@ -135,9 +136,22 @@ fn sums_of(alloc: Global, all: &[List<u32>]) -> Result<Vec<u32>, AllocError>
     Ok(sums)
 }
 
-// ---- of expressions
+/// The sums of the choices of one number of each list, each once.
+#[inline(never)]
+fn sums_once(alloc: Global, lists: List<List<u32>>) -> Result<Vec<u32>, AllocError>
+    ensures { IfOk result (λ found. found.items ≡ distinct (map sum (choices lists))) }
+{
+    let all = choices_of(alloc, lists.as_slice())?;
+    let sums = sums_of(alloc, all.as_slice())?;
+    let found = each_once(alloc, sums.as_slice())?;
+    Ok(found)
+}
+
+// ---- of expressions. What does not lead back to `weights_of` is not put into its caller's frame, which stands on
+// the stack once for each level of an expression.
 
 /// Gives up, as for want of memory, where a literal has more tokens than 32 bits count.
+#[inline(never)]
 fn weight_of(alloc: Global, leaf: &Leaf) -> Result<Vec<u32>, AllocError>
     ensures { IfOk result (λ found. found.items ≡ length leaf.now.pattern.texts ∷ []) }
 {
@@ -173,6 +187,7 @@ pub(crate) fn weights_of(alloc: Global, tree: &SpanTree) -> Result<Vec<u32>, All
 }
 
 #[cycle(weights_of)]
+#[inline(never)]
 fn weights_of_union(alloc: Global, parts: &[SpanTree]) -> Result<Vec<u32>, AllocError>
     ensures { IfOk result (λ found. found.items ≡ distinct (joined (map weights parts.now))) }
 {
@@ -189,9 +204,7 @@ fn weights_of_near(alloc: Global, parts: &[SpanTree]) -> Result<Vec<u32>, AllocE
     ensures { IfOk result (λ found. found.items ≡ distinct (map sum (choices (map weights parts.now)))) }
 {
     let each = weights_each(alloc, parts)?;
-    let all = choices_of(alloc, each.as_slice())?;
-    let sums = sums_of(alloc, all.as_slice())?;
-    let found = each_once(alloc, sums.as_slice())?;
+    let found = sums_once(alloc, each)?;
     Ok(found)
 }
 
@@ -209,6 +222,7 @@ pub(crate) fn weights_each(alloc: Global, parts: &[SpanTree]) -> Result<List<Lis
 }
 
 /// The choices of one weight of each part that have the sum.
+#[inline(never)]
 pub(crate) fn choices_with(
     alloc: Global,
     parts: &[SpanTree],

@@ -1,6 +1,10 @@
 //! Corpora as they are written.
+ghost use Rattle.std.specs.Prelude.{◌≡◌, true, IfOk};
+ghost use Rattle.std.specs.List.{list_all};
+ghost use Rattle.sq_model.specs.Valid.{IsValid, has_short_texts};
 
 use sq_corpus::{CorpusFault, read_corpus, write_corpus};
+use sq_model::Corpus;
 use std::alloc::Global;
 use std::test::Fail;
 
@@ -71,6 +75,17 @@ value\tpublic\ttrue
 value\ttags\ta\\tb\\n\\r\\rc
 value\ttags\t
 ";
+
+/// The corpus of a text of at most 100,000 bytes.
+pub(crate) fn corpus_of(alloc: Global, text: &str) -> Result<Corpus, CorpusFault>
+    ensures valid { IfOk result IsValid }
+    ensures short { IfOk result (λ corpus. list_all has_short_texts corpus.items ≡ true) }
+{
+    if text.len() > 100_000 {
+        return Err(CorpusFault::NoMemory);
+    }
+    read_corpus(alloc, text.as_bytes())
+}
 
 /// What is written of the corpus of a text.
 fn rewritten(alloc: Global, text: &str) -> Result<Vec<u8>, CorpusFault> {

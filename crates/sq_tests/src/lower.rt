@@ -19,11 +19,11 @@ use std::process::Abort;
 use std::test::Fail;
 
 /// 2024-02-29T12:00:00Z.
-const MOMENT: i64 = 1_709_208_000;
+pub(crate) const MOMENT: i64 = 1_709_208_000;
 
 /// KQL texts of every construct, one in each line, and behind some of them what they give the items: whether
 /// they hold, and the boost, where all loose operands must hold.
-const FORMS: &str = "\
+pub(crate) const FORMS: &str = "\
 notes debt memo\n\
 debt debt\n\
 debt nothing\n\
@@ -280,14 +280,19 @@ fn both_give(
     Ok((own, other))
 }
 
-fn typed(alloc: Global, schema: &Schema, text: &str) -> Result<KTree, Fault>
+pub(crate) fn typed(alloc: Global, schema: &Schema, text: &str) -> Result<KTree, Fault>
     ensures { IfOk result (IsSound schema.now) }
 {
     let raw = read_kql(alloc, text)?;
     type_kql(alloc, &raw, schema, clamped(MOMENT))
 }
 
-fn lowered(alloc: Global, schema: &Schema, tree: &KTree, joiner: Joiner) -> Result<FTree, Fault>
+pub(crate) fn lowered(
+    alloc: Global,
+    schema: &Schema,
+    tree: &KTree,
+    joiner: Joiner,
+) -> Result<FTree, Fault>
     requires { IsSound schema.now tree.now }
 {
     let raw = lower(alloc, tree, schema, joiner)?;

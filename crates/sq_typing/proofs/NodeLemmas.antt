@@ -43,13 +43,9 @@ module _ {t : KRaw} where
   unfolding shape-the_row-KRaw-0 hidden-the_row-KRaw-0 denote.Hole.Carrier.hidden
   nodes_group x at inside is same = rw (is, same) (omega arith)
 
-  pub nodes_left : (x : KRaw) (at : ℕ) (left right : KRaw) (n : ℕ) (ordered : Bool) → t ≡ Near at left right n ordered → x ≡ left → nodes x < nodes t
+  pub nodes_both : (x y : KRaw) (at : ℕ) (left right : KRaw) (n : ℕ) (ordered : Bool) → t ≡ Near at left right n ordered → x ≡ left → y ≡ right → nodes x + nodes y < nodes t
   unfolding shape-the_row-KRaw-0 hidden-the_row-KRaw-0 denote.Hole.Carrier.hidden
-  nodes_left x at left right n ordered is same = rw (is, same) (omega arith)
-
-  pub nodes_right : (x : KRaw) (at : ℕ) (left right : KRaw) (n : ℕ) (ordered : Bool) → t ≡ Near at left right n ordered → x ≡ right → nodes x < nodes t
-  unfolding shape-the_row-KRaw-0 hidden-the_row-KRaw-0 denote.Hole.Carrier.hidden
-  nodes_right x at left right n ordered is same = rw (is, same) (omega arith)
+  nodes_both x y at left right n ordered is same also = rw (is, same, also) (omega arith)
 
   pub nodes_matched : (x : KRaw) (at : ℕ) (matched ranked : KRaw) (cb : ℤ) → t ≡ Xrank at matched ranked cb → x ≡ matched → nodes x < nodes t
   unfolding shape-the_row-KRaw-0 hidden-the_row-KRaw-0 denote.Hole.Carrier.hidden
@@ -77,3 +73,7 @@ below_tree a b t less is = omega arith
 
 pub below_list : (a b t : ℕ) → a ≤ b → 2 * b + 1 ≡ t → 2 * a < t
 below_list a b t less is = omega arith
+
+-- that of each of two parts whose measures are taken together
+pub below_pair : (a b t : ℕ) → 2 * (a + b) + 1 ≡ t → (2 * a < t) × (2 * b < t)
+below_pair a b t is = (omega arith, omega arith)

@@ -23,6 +23,18 @@ invariant-run_of-loop-operand l =
 abbrev pub decreases-tree_of : goal.decreases-tree_of
 decreases-tree_of l = 3 * nodes l.tree.now
 
+abbrev pub decreases-near_form : goal.decreases-near_form
+decreases-near_form l = 3 * (nodes l.left.now + nodes l.right.now) + 1
+
+abbrev pub decreases-xrank_form : goal.decreases-xrank_form
+decreases-xrank_form l = 3 * (nodes l.matched.now + nodes l.ranked.now) + 1
+
+abbrev pub decreases-all_form : goal.decreases-all_form
+decreases-all_form l = 3 * all_nodes l.parts.now + 2
+
+abbrev pub decreases-some_form : goal.decreases-some_form
+decreases-some_form l = 3 * all_nodes l.parts.now + 2
+
 abbrev pub decreases-trees_of : goal.decreases-trees_of
 decreases-trees_of l = 3 * all_nodes l.parts.now + 1
 

@@ -17,9 +17,9 @@ parts_at-returns-in_err-stream-clause-cost g t c =
     c.part-item.result c.weight_at.result c.loop-part-test.true c.requires c.part-item.is (subst (λ k. c.weight_at.result ≡ get_or c.args.weights.now k c.weight_at.result) c.loop-part.invariant.at c.weight_at.ensures) c.loop-part.invariant.seen
     c.stream_of.new.steps c.in_err-stream.ensures.cost)
 
-pub parts_at-returns-in_err-push-clause-cost : goal.parts_at-returns-in_err-push-clause-cost
-parts_at-returns-in_err-push-clause-cost g t c =
-    let refused = err_from_is_err_and c.from_residual-in_err-push.result c.from_residual-in_err-push.ensures.1 in
+pub parts_at-returns-in_err-push_stream-clause-cost : goal.parts_at-returns-in_err-push_stream-clause-cost
+parts_at-returns-in_err-push_stream-clause-cost g t c =
+    let refused = err_from_is_err_and c.from_residual-in_err-push_stream.result c.from_residual-in_err-push_stream.ensures.1 in
     rw refused.1 (parts_err post_left post_rest c.args.index.now c.args.look c.loop-part.part-index c.args.parts.now c.args.weights.now c.loop-part.streams.items c.args.steps.now c.loop-part.steps
     c.part-item.result c.weight_at.result c.loop-part-test.true c.requires c.part-item.is (subst (λ k. c.weight_at.result ≡ get_or c.args.weights.now k c.weight_at.result) c.loop-part.invariant.at c.weight_at.ensures) c.loop-part.invariant.seen
     c.stream_of.new.steps (λ corpus valid stands. without _ _ _ (c.in_ok-stream.ensures.cost corpus valid stands)))
@@ -29,7 +29,7 @@ parts_at-loop-part-preserved g t c = record {
   at = ap (λ n. n + 1) c.loop-part.invariant.at;
   seen = parts_next post_left post_rest c.args.index.now c.args.look c.loop-part.part-index c.args.parts.now c.args.weights.now c.loop-part.streams.items c.args.steps.now c.loop-part.steps
       c.part-item.result c.weight_at.result c.loop-part-test.true c.requires c.part-item.is (subst (λ k. c.weight_at.result ≡ get_or c.args.weights.now k c.weight_at.result) c.loop-part.invariant.at c.weight_at.ensures) c.loop-part.invariant.seen
-      c.push.new.self.items c.stream_of.new.steps c.in_ok-stream.stream c.in_ok-stream.ensures.left c.in_ok-stream.ensures.cost c.in_ok-push.ensures.items;
+      c.push_stream.new.streams.items c.stream_of.new.steps c.in_ok-stream.stream.value c.in_ok-stream.ensures.left c.in_ok-stream.ensures.cost c.in_ok-push_stream.ensures;
 }
 
 pub parts_at-returns-clause-left : goal.parts_at-returns-clause-left
@@ -52,29 +52,29 @@ joins_at-returns-in_err-streams-clause-cost g t c =
 pub joins_at-returns-in_err-join-clause-cost : goal.joins_at-returns-in_err-join-clause-cost
 joins_at-returns-in_err-join-clause-cost g t c =
     let refused = err_from_is_err_and c.from_residual-in_err-join.result c.from_residual-in_err-join.ensures.1 in
-    rw refused.1 (seen_err post_left post_rest c.args.index.now (λ corpus. IsJoinOf corpus c.args.look c.args.parts.now c.args.n c.args.ordered) (λ corpus vs. sum (prices corpus c.args.look c.args.parts.now vs)) c.loop-choice.choice-index c.args.choices.now c.loop-choice.joins.items c.args.steps.now c.loop-choice.steps c.join_of.new.steps
+    rw refused.1 (seen_err post_left post_rest c.args.index.now (λ corpus. IsJoinOf corpus c.args.look c.args.parts.now c.args.n c.args.ordered) (λ corpus vs. sum (prices corpus c.args.look c.args.parts.now vs)) c.loop-choice.choice-index c.args.choices.now c.loop-choice.joins.items c.args.steps.now c.loop-choice.steps c.boxed_join.new.steps
     c.choice-item.result c.loop-choice-test.true c.choice-item.is
-    (join_price c.args.index.now c.args.look c.args.parts.now c.choice-item.result c.as_slice.result.now c.loop-choice.steps (c.parts_at.new.steps + sum_by (stream_rest post_rest) c.in_ok-streams.streams.items) c.join_of.new.steps c.as_slice.ensures c.in_err-join.ensures.cost c.in_ok-streams.ensures.cost)
+    (join_price c.args.index.now c.args.look c.args.parts.now c.choice-item.result c.as_slice.result.now c.loop-choice.steps (c.parts_at.new.steps + sum_by (stream_rest post_rest) c.in_ok-streams.streams.items) c.boxed_join.new.steps c.as_slice.ensures c.in_err-join.ensures.cost c.in_ok-streams.ensures.cost)
     c.loop-choice.invariant)
 
-pub joins_at-returns-in_err-push-clause-cost : goal.joins_at-returns-in_err-push-clause-cost
-joins_at-returns-in_err-push-clause-cost g t c =
-    let refused = err_from_is_err_and c.from_residual-in_err-push.result c.from_residual-in_err-push.ensures.1 in
-    rw refused.1 (seen_err post_left post_rest c.args.index.now (λ corpus. IsJoinOf corpus c.args.look c.args.parts.now c.args.n c.args.ordered) (λ corpus vs. sum (prices corpus c.args.look c.args.parts.now vs)) c.loop-choice.choice-index c.args.choices.now c.loop-choice.joins.items c.args.steps.now c.loop-choice.steps c.join_of.new.steps
+pub joins_at-returns-in_err-push_stream-clause-cost : goal.joins_at-returns-in_err-push_stream-clause-cost
+joins_at-returns-in_err-push_stream-clause-cost g t c =
+    let refused = err_from_is_err_and c.from_residual-in_err-push_stream.result c.from_residual-in_err-push_stream.ensures.1 in
+    rw refused.1 (seen_err post_left post_rest c.args.index.now (λ corpus. IsJoinOf corpus c.args.look c.args.parts.now c.args.n c.args.ordered) (λ corpus vs. sum (prices corpus c.args.look c.args.parts.now vs)) c.loop-choice.choice-index c.args.choices.now c.loop-choice.joins.items c.args.steps.now c.loop-choice.steps c.boxed_join.new.steps
     c.choice-item.result c.loop-choice-test.true c.choice-item.is
-    (join_price c.args.index.now c.args.look c.args.parts.now c.choice-item.result c.as_slice.result.now c.loop-choice.steps (c.parts_at.new.steps + sum_by (stream_rest post_rest) c.in_ok-streams.streams.items) c.join_of.new.steps c.as_slice.ensures (without _ _ _ c.in_ok-join.ensures.cost) c.in_ok-streams.ensures.cost)
+    (join_price c.args.index.now c.args.look c.args.parts.now c.choice-item.result c.as_slice.result.now c.loop-choice.steps (c.parts_at.new.steps + sum_by (stream_rest post_rest) c.in_ok-streams.streams.items) c.boxed_join.new.steps c.as_slice.ensures (without _ _ _ c.in_ok-join.ensures.cost) c.in_ok-streams.ensures.cost)
     c.loop-choice.invariant)
 
 pub joins_at-loop-choice-preserved : goal.joins_at-loop-choice-preserved
 joins_at-loop-choice-preserved g t c =
     let adds = (choice_at c.args.parts.now c.args.v c.args.choices.now c.loop-choice.choice-index c.choice-item.result c.as_slice.result.now c.requires c.loop-choice-test.true c.choice-item.is c.as_slice.ensures).1 in
     let lists = map (stream_left post_left) c.in_ok-streams.streams.items in
-    seen_next post_left post_rest c.args.index.now (λ corpus. IsJoinOf corpus c.args.look c.args.parts.now c.args.n c.args.ordered) (λ corpus vs. sum (prices corpus c.args.look c.args.parts.now vs)) c.loop-choice.choice-index c.args.choices.now c.loop-choice.joins.items c.push.new.self.items c.args.steps.now c.loop-choice.steps c.join_of.new.steps
-    c.choice-item.result c.in_ok-join.join c.loop-choice-test.true c.choice-item.is
+    seen_next post_left post_rest c.args.index.now (λ corpus. IsJoinOf corpus c.args.look c.args.parts.now c.args.n c.args.ordered) (λ corpus vs. sum (prices corpus c.args.look c.args.parts.now vs)) c.loop-choice.choice-index c.args.choices.now c.loop-choice.joins.items c.push_stream.new.streams.items c.args.steps.now c.loop-choice.steps c.boxed_join.new.steps
+    c.choice-item.result c.in_ok-join.join.value c.loop-choice-test.true c.choice-item.is
     (λ corpus valid stands. join_made c.joins_are_streams.ensures corpus c.args.look c.args.parts.now c.args.n c.args.ordered c.args.v c.choice-item.result c.as_slice.result.now lists
-    (stream_left post_left c.in_ok-join.join) c.as_slice.ensures adds (c.in_ok-streams.ensures.left corpus valid stands) c.tell_order.ensures c.in_ok-join.ensures.left)
-    (join_price c.args.index.now c.args.look c.args.parts.now c.choice-item.result c.as_slice.result.now c.loop-choice.steps (c.parts_at.new.steps + sum_by (stream_rest post_rest) c.in_ok-streams.streams.items) (c.join_of.new.steps + stream_rest post_rest c.in_ok-join.join) c.as_slice.ensures c.in_ok-join.ensures.cost c.in_ok-streams.ensures.cost)
-    c.in_ok-push.ensures.items c.loop-choice.invariant
+    (stream_left post_left c.in_ok-join.join.value) c.as_slice.ensures adds (c.in_ok-streams.ensures.left corpus valid stands) c.tell_order.ensures c.in_ok-join.ensures.left)
+    (join_price c.args.index.now c.args.look c.args.parts.now c.choice-item.result c.as_slice.result.now c.loop-choice.steps (c.parts_at.new.steps + sum_by (stream_rest post_rest) c.in_ok-streams.streams.items) (c.boxed_join.new.steps + stream_rest post_rest c.in_ok-join.join.value) c.as_slice.ensures c.in_ok-join.ensures.cost c.in_ok-streams.ensures.cost)
+    c.in_ok-push_stream.ensures c.loop-choice.invariant
 
 pub joins_at-returns-clause-left : goal.joins_at-returns-clause-left
 joins_at-returns-clause-left g t c = λ corpus valid stands.
@@ -90,13 +90,13 @@ pub near_at-returns-in_err-stream-clause-cost : goal.near_at-returns-in_err-stre
 near_at-returns-in_err-stream-clause-cost g t c =
     let refused = err_from_is_err_and c.from_residual-in_err-stream.result c.from_residual-in_err-stream.ensures.1 in
     rw refused.1 (near_price c.args.index.now c.args.look c.args.parts.now c.as_slice-slice.result.now c.args.n c.args.ordered c.args.v c.as_slice-each.result.now c.args.steps.now
-    (c.joins_at.new.steps + sum_by (stream_rest post_rest) c.in_ok-joins.joins.items) c.merge_of.new.steps c.as_slice-slice.ensures (c.as_slice-each.ensures ∙ c.in_ok-choices.ensures)
+    (c.joins_at.new.steps + sum_by (stream_rest post_rest) c.in_ok-joins.joins.items) c.boxed_merge.new.steps c.as_slice-slice.ensures (c.as_slice-each.ensures ∙ c.in_ok-choices.ensures)
     c.in_err-stream.ensures.cost c.in_ok-joins.ensures.cost)
 
 pub near_at-returns-clause-cost : goal.near_at-returns-clause-cost
 near_at-returns-clause-cost g t c =
     near_price c.args.index.now c.args.look c.args.parts.now c.as_slice-slice.result.now c.args.n c.args.ordered c.args.v c.as_slice-each.result.now c.args.steps.now
-    (c.joins_at.new.steps + sum_by (stream_rest post_rest) c.in_ok-joins.joins.items) (c.merge_of.new.steps + stream_rest post_rest c.in_ok-stream.stream) c.as_slice-slice.ensures
+    (c.joins_at.new.steps + sum_by (stream_rest post_rest) c.in_ok-joins.joins.items) (c.boxed_merge.new.steps + stream_rest post_rest c.in_ok-stream.stream.value) c.as_slice-slice.ensures
     (c.as_slice-each.ensures ∙ c.in_ok-choices.ensures) c.in_ok-stream.ensures.cost c.in_ok-joins.ensures.cost
 
 pub union_at-returns-in_err-streams-clause-cost : goal.union_at-returns-in_err-streams-clause-cost
@@ -109,16 +109,16 @@ pub union_at-returns-in_err-stream-clause-cost : goal.union_at-returns-in_err-st
 union_at-returns-in_err-stream-clause-cost g t c =
     let refused = err_from_is_err_and c.from_residual-in_err-stream.result c.from_residual-in_err-stream.ensures.1 in
     rw refused.1 (union_price c.args.index.now c.args.look c.args.parts.now c.as_slice-slice.result.now c.as_slice-each.result.now c.args.v c.args.steps.now
-    (c.parts_at.new.steps + sum_by (stream_rest post_rest) c.in_ok-streams.streams.items) c.merge_of.new.steps c.as_slice-slice.ensures (c.as_slice-each.ensures.value ∙ c.in_ok-weights.ensures) c.in_err-stream.ensures.cost c.in_ok-streams.ensures.cost)
+    (c.parts_at.new.steps + sum_by (stream_rest post_rest) c.in_ok-streams.streams.items) c.boxed_merge.new.steps c.as_slice-slice.ensures (c.as_slice-each.ensures.value ∙ c.in_ok-weights.ensures) c.in_err-stream.ensures.cost c.in_ok-streams.ensures.cost)
 
 pub union_at-returns-clause-left : goal.union_at-returns-clause-left
 union_at-returns-clause-left g t c =
     union_made c.args.index.now c.args.look c.unions_are_streams.ensures c.args.parts.now c.as_slice-slice.result.now c.as_slice-each.result.now c.args.v
-    (map (stream_left post_left) c.in_ok-streams.streams.items) (stream_left post_left c.in_ok-stream.stream) c.as_slice-slice.ensures (c.as_slice-each.ensures.value ∙ c.in_ok-weights.ensures)
+    (map (stream_left post_left) c.in_ok-streams.streams.items) (stream_left post_left c.in_ok-stream.stream.value) c.as_slice-slice.ensures (c.as_slice-each.ensures.value ∙ c.in_ok-weights.ensures)
     c.in_ok-streams.ensures.left c.tell_order.ensures c.in_ok-stream.ensures.left
 
 pub union_at-returns-clause-cost : goal.union_at-returns-clause-cost
 union_at-returns-clause-cost g t c =
     union_price c.args.index.now c.args.look c.args.parts.now c.as_slice-slice.result.now c.as_slice-each.result.now c.args.v c.args.steps.now
-    (c.parts_at.new.steps + sum_by (stream_rest post_rest) c.in_ok-streams.streams.items) (c.merge_of.new.steps + stream_rest post_rest c.in_ok-stream.stream) c.as_slice-slice.ensures (c.as_slice-each.ensures.value ∙ c.in_ok-weights.ensures)
+    (c.parts_at.new.steps + sum_by (stream_rest post_rest) c.in_ok-streams.streams.items) (c.boxed_merge.new.steps + stream_rest post_rest c.in_ok-stream.stream.value) c.as_slice-slice.ensures (c.as_slice-each.ensures.value ∙ c.in_ok-weights.ensures)
     c.in_ok-stream.ensures.cost c.in_ok-streams.ensures.cost

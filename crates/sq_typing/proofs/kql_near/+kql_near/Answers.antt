@@ -1,17 +1,19 @@
 use Rattle.std.proofs.Common.{map, subst, ap, ap₂, sym, ◌∙◌}
+use Rattle.std.proofs.lemmas.Result.{IfOk-weaker}
 use Rattle.std.specs.List.{All}
 use Rattle.sq_model.specs.declared.kql.KTree.TheVariants as tree
+use Rattle.sq_kql.specs.WellFormed.{nodes}
 use Rattle.sq_typing.specs.Formed.{IsFormed, IsLiteral}
 use Rattle.sq_typing.specs.Kql.{proximate}
 use Rattle.sq_typing.specs.Together.{mapped, together, all_of}
 use Rattle.sq_typing.proofs.FormedLemmas.{formed_words, formed_group, formed_left, formed_right, formed_or}
 use Rattle.sq_typing.proofs.KqlEquations.{proximate_group, proximate_near, proximate_or}
-use Rattle.sq_typing.proofs.NodeLemmas.{nodes_group, nodes_left, nodes_right, nodes_or, at_most_all, below, below_tree, below_list}
+use Rattle.sq_typing.proofs.NodeLemmas.{nodes_group, nodes_both, nodes_or, at_most_all, below, below_tree, below_list, below_pair}
 use Rattle.sq_typing.proofs.TogetherLemmas.{step}
 use Rattle.sq_typing.proofs.kql_near.+kql_near.Goals as goal
 
-pub proximate-leaves-requires : goal.proximate-leaves-requires
-proximate-leaves-requires t c = subst (All IsLiteral) (sym c.as_slice.ensures) (formed_words c.in-Words.at c.in-Words.pieces c.in-Words.is c.requires)
+pub proximate-words_of-requires : goal.proximate-words_of-requires
+proximate-words_of-requires t c = subst (All IsLiteral) (sym c.as_slice.ensures) (formed_words c.in-Words.at c.in-Words.pieces c.in-Words.is c.requires)
 
 pub proximate-proximate-requires : goal.proximate-proximate-requires
 proximate-proximate-requires t c = (
@@ -19,17 +21,20 @@ proximate-proximate-requires t c = (
   subst IsFormed (sym c.get.ensures) (formed_group c.in-Group.at c.in-Group.inner c.in-Group.is c.requires),
 )
 
-pub proximate-proximate-requires-in-Near : goal.proximate-proximate-requires-in-Near
-proximate-proximate-requires-in-Near t c = (
-  below _ _ _ (nodes_left c.get-in-Near.result.now c.in-Near.at c.in-Near.left c.in-Near.right c.in-Near.n c.in-Near.ordered c.in-Near.is c.get-in-Near.ensures) c.decreases,
-  subst IsFormed (sym c.get-in-Near.ensures) (formed_left c.in-Near.at c.in-Near.left c.in-Near.right c.in-Near.n c.in-Near.ordered c.in-Near.is c.requires),
+pub proximate-near_in-requires : goal.proximate-near_in-requires
+proximate-near_in-requires t c = (
+  below_tree _ _ _ (nodes_both c.get-in-Near.result.now c.get-in-Near-2.result.now c.in-Near.at c.in-Near.left c.in-Near.right c.in-Near.n c.in-Near.ordered c.in-Near.is c.get-in-Near.ensures c.get-in-Near-2.ensures) c.decreases,
+  (
+    subst IsFormed (sym c.get-in-Near.ensures) (formed_left c.in-Near.at c.in-Near.left c.in-Near.right c.in-Near.n c.in-Near.ordered c.in-Near.is c.requires),
+    subst IsFormed (sym c.get-in-Near-2.ensures) (formed_right c.in-Near.at c.in-Near.left c.in-Near.right c.in-Near.n c.in-Near.ordered c.in-Near.is c.requires),
+  ),
 )
 
-pub proximate-proximate-requires-in-Near-2 : goal.proximate-proximate-requires-in-Near-2
-proximate-proximate-requires-in-Near-2 t c = (
-  below _ _ _ (nodes_right c.get-in-Near-2.result.now c.in-Near.at c.in-Near.left c.in-Near.right c.in-Near.n c.in-Near.ordered c.in-Near.is c.get-in-Near-2.ensures) c.decreases,
-  subst IsFormed (sym c.get-in-Near-2.ensures) (formed_right c.in-Near.at c.in-Near.left c.in-Near.right c.in-Near.n c.in-Near.ordered c.in-Near.is c.requires),
-)
+pub near_in-proximate-requires : goal.near_in-proximate-requires
+near_in-proximate-requires t c = ((below_pair (nodes c.args.left.now) (nodes c.args.right.now) _ c.decreases).0, c.requires.0)
+
+pub near_in-proximate-requires-2 : goal.near_in-proximate-requires-2
+near_in-proximate-requires-2 t c = ((below_pair (nodes c.args.left.now) (nodes c.args.right.now) _ c.decreases).1, c.requires.1)
 
 pub proximate-proximate_each-requires : goal.proximate-proximate_each-requires
 proximate-proximate_each-requires t c = (
@@ -50,13 +55,14 @@ proximate-returns-in_ok-group-in-Group t c =
     ∙ (ap (mapped tree.Group) (c.in_ok-inside-in-Group.ensures ∙ ap here c.get.ensures)
     ∙ (sym (proximate_group c.args.schema.now c.in-Group.at c.in-Group.inner) ∙ ap here (sym c.in-Group.is)))
 
-pub proximate-returns-in_ok-near-in-Near : goal.proximate-returns-in_ok-near-in-Near
-proximate-returns-in_ok-near-in-Near t c =
+pub proximate-returns-in-Near : goal.proximate-returns-in-Near
+proximate-returns-in-Near t c =
     let here = proximate c.args.schema.now in
-    c.in_ok-near-in-Near.ensures
-    ∙ (ap₂ (together (λ l r. tree.Near l r c.in-Near.n c.in-Near.ordered))
-    (c.in_ok-left-in-Near.ensures ∙ ap here c.get-in-Near.ensures) (c.in_ok-right-in-Near.ensures ∙ ap here c.get-in-Near-2.ensures)
-    ∙ (sym (proximate_near c.args.schema.now c.in-Near.at c.in-Near.left c.in-Near.right c.in-Near.n c.in-Near.ordered) ∙ ap here (sym c.in-Near.is)))
+    IfOk-weaker c.near_in.result _ _ (λ typed e.
+    e
+    ∙ (ap₂ (together (λ l r. tree.Near l r c.in-Near.n c.in-Near.ordered)) (ap here c.get-in-Near.ensures) (ap here c.get-in-Near-2.ensures)
+    ∙ (sym (proximate_near c.args.schema.now c.in-Near.at c.in-Near.left c.in-Near.right c.in-Near.n c.in-Near.ordered) ∙ ap here (sym c.in-Near.is))))
+    c.near_in.ensures
 
 pub proximate-returns-in_ok-parts-in-Or : goal.proximate-returns-in_ok-parts-in-Or
 proximate-returns-in_ok-parts-in-Or t c =

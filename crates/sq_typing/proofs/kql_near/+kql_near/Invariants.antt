@@ -12,5 +12,8 @@ invariant-proximate_each-loop-part l =
 abbrev pub decreases-proximate : goal.decreases-proximate
 decreases-proximate l = 2 * nodes l.tree.now
 
+abbrev pub decreases-near_in : goal.decreases-near_in
+decreases-near_in l = 2 * (nodes l.left.now + nodes l.right.now) + 1
+
 abbrev pub decreases-proximate_each : goal.decreases-proximate_each
 decreases-proximate_each l = 2 * all_nodes l.parts.now + 1
