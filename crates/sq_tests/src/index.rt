@@ -155,12 +155,21 @@ fn numbers_rise_within_an_item(rt: HostRuntime) -> Result<(), Fail> {
     Ok(())
 }
 
+/// The claims of these names.
+fn claims_of(alloc: Global, names: &str) -> Result<Vec<Text>, AllocError> {
+    let mut claims = Vec::new(alloc);
+    for name in names.split(' ') {
+        claims.push(Text::from_str(alloc, name)?)?;
+    }
+    Ok(claims)
+}
+
 /// The rows that claims admit, from a row on.
 fn admitted<L: Ledger>(
     alloc: Global,
     blank: Blank,
     index: &Index,
-    names: &str,
+    claims: &Vec<Text>,
     from: u32,
 ) -> Result<String, AllocError>
     requires name { blank.name ≡ L.name }
@@ -168,11 +177,7 @@ fn admitted<L: Ledger>(
     requires some { 0 < blank.parts }
 {
     let steps = &mut Steps::<L>::new(blank);
-    let mut claims = Vec::new(alloc);
-    for name in names.split(' ') {
-        claims.push(Text::from_str(alloc, name)?)?;
-    }
-    let mut rows = Admitted::begin(alloc, index, &claims, steps)?;
+    let mut rows = Admitted::begin(alloc, index, claims, steps)?;
     rows.seek(from, steps);
     let mut given = String::new(alloc);
     for _ in 0..10 {
@@ -210,7 +215,8 @@ fn claims_admit_and_deny(rt: HostRuntime) -> Result<(), Fail> {
     ];
     for row in &rows {
         let (names, from, want) = *row;
-        let given = admitted::<Brand>(alloc, Blank::new(1), &index, names, from)?;
+        let claims = claims_of(alloc, names)?;
+        let given = admitted::<Brand>(alloc, Blank::new(1), &index, &claims, from)?;
         assert_eq!(rt; given.as_str(), want, "at {names} {from}");
     }
     Ok(())
@@ -276,12 +282,13 @@ fn spread(alloc: Global) -> Result<String, AllocError> {
     Ok(text)
 }
 
-/// The first words of the code of the lists of a token.
+/// The first words of the code of the lists from one on and before another.
 fn codes<L: Ledger>(
     alloc: Global,
     blank: Blank,
     index: &Index,
-    token: &str,
+    start: u32,
+    end: u32,
 ) -> Result<String, AllocError>
     requires name { blank.name ≡ L.name }
     requires parts { blank.parts ≡ L.parts }
@@ -289,7 +296,7 @@ fn codes<L: Ledger>(
 {
     let steps = &mut Steps::<L>::new(blank);
     let mut given = String::new(alloc);
-    for list in index.rows(0, token, false) {
+    for list in start..end {
         for at in 0..10 {
             if list < index.lists() {
                 if let Some(word) = index.list_word(list, at, steps) {
@@ -315,7 +322,8 @@ fn a_list_has_the_words_of_its_postings(rt: HostRuntime) -> Result<(), Fail> {
         let (text, token, want) = *row;
         let corpus = corpus_of(alloc, text)?;
         let index = build_index(alloc, &corpus)?;
-        let given = codes::<Brand>(alloc, Blank::new(1), &index, token)?;
+        let lists = index.rows(0, token, false);
+        let given = codes::<Brand>(alloc, Blank::new(1), &index, lists.start, lists.end)?;
         assert_eq!(rt; given.as_str(), want, "at {token}");
     }
     Ok(())
@@ -337,31 +345,36 @@ fn many(alloc: Global, count: u32) -> Result<String, AllocError> {
     Ok(text)
 }
 
-/// The first span from each of these rows on, in one list, and 999 at its end.
+/// The numbers that stand in a text between single blanks.
+fn rows_of(alloc: Global, text: &str) -> Result<Vec<u32>, AllocError> {
+    let mut rows = Vec::new(alloc);
+    for row in text.split(' ') {
+        rows.push(row.parse::<u32>().unwrap_or(0))?;
+    }
+    Ok(rows)
+}
+
+/// The first span from each of these rows on, in a list, and 999 at its end; nothing where there is no such list.
 fn sought<L: Ledger>(
     alloc: Global,
     blank: Blank,
     index: &Index,
-    token: &str,
-    rows: &str,
+    list: u32,
+    rows: &Vec<u32>,
 ) -> Result<String, AllocError>
     requires name { blank.name ≡ L.name }
     requires parts { blank.parts ≡ L.parts }
     requires some { 0 < blank.parts }
 {
     let steps = &mut Steps::<L>::new(blank);
-    let lists = index.rows(0, token, false);
     let mut given = String::new(alloc);
-    for list in lists {
-        if list < index.lists() {
-            let mut cursor = index.cursor(list, steps);
-            for row in rows.split(' ') {
-                let row = row.parse::<u32>().unwrap_or(0);
-                cursor.seek_passage((row, 0), steps);
-                let (here, _) = cursor.passage().unwrap_or((999, 0));
-                let (first, _) = cursor.span().unwrap_or((0, 0));
-                given.push_str(&format!(in alloc; "{here} {first};")?)?;
-            }
+    if list < index.lists() {
+        let mut cursor = index.cursor(list, steps);
+        for row in rows {
+            cursor.seek_passage((*row, 0), steps);
+            let (here, _) = cursor.passage().unwrap_or((999, 0));
+            let (first, _) = cursor.span().unwrap_or((0, 0));
+            given.push_str(&format!(in alloc; "{here} {first};")?)?;
         }
     }
     Ok(given)
@@ -402,7 +415,13 @@ fn a_list_is_sought_across_blocks(rt: HostRuntime) -> Result<(), Fail> {
     ];
     for row in &rows {
         let (token, sought_rows, want) = *row;
-        let given = sought::<Brand>(alloc, Blank::new(1), &index, token, sought_rows)?;
+        let rows = rows_of(alloc, sought_rows)?;
+        let lists = index.rows(0, token, false);
+        let mut given = String::new(alloc);
+        for list in lists {
+            let spans = sought::<Brand>(alloc, Blank::new(1), &index, list, &rows)?;
+            given.push_str(spans.as_str())?;
+        }
         assert_eq!(rt; given.as_str(), want, "at {want}");
     }
     Ok(())
