@@ -1,5 +1,6 @@
 -- The words in which a list of postings is kept, and the postings of words.
 use Rattle.std.specs.Prelude.{◌≡◌, ◌<◌, ◌≤◌, ◌^◌, ⊤, ℕ, zero, suc, ◌+◌, ◌-◌, ◌*◌, ◌/◌, ◌%◌, Bool, true, nat_lt, ◌==◌, ◌&&◌, ◌||◌, if◌then◌else◌, List, [], ◌∷◌, ◌++◌, length, take, drop}
+use Rattle.sq_base.specs.Limits.{most_items, most_values, most_corpus_bytes}
 use Rattle.sq_coded.specs.declared.posting.Posting.{Posting}
 
 -- ---- lists of postings
@@ -8,7 +9,7 @@ abbrev pub comes_before : Posting → Posting → Bool
 comes_before a b = nat_lt a.row b.row || (a.row == b.row && (nat_lt a.ordinal b.ordinal || (a.ordinal == b.ordinal && nat_lt a.place b.place)))
 
 abbrev pub is_small : Posting → Bool
-is_small e = nat_lt e.row 1_000_000 && (nat_lt e.ordinal 1_000 && nat_lt e.place 67_108_864)
+is_small e = nat_lt e.row most_items && (nat_lt e.ordinal most_values && nat_lt e.place most_corpus_bytes)
 
 abbrev pub rises_behind : Posting → List Posting → Bool
 rises_behind before [] = true
@@ -30,9 +31,9 @@ pub record Follows (before e : Posting) : Type 0 where
   pub row : before.row ≤ e.row
   pub ordinal : e.row ≡ before.row → before.ordinal ≤ e.ordinal
   pub place : e.row ≡ before.row → e.ordinal ≡ before.ordinal → before.place ≤ e.place
-  pub small_row : e.row < 1_000_000
-  pub small_ordinal : e.ordinal < 1_000
-  pub small_place : e.place < 67_108_864
+  pub small_row : e.row < most_items
+  pub small_ordinal : e.ordinal < most_values
+  pub small_place : e.place < most_corpus_bytes
 
 abbrev pub AllFollow : Posting → List Posting → Type 0
 AllFollow before [] = ⊤
@@ -95,12 +96,16 @@ block_code entries = packed (bytes_behind origin entries)
 abbrev pub block_words : List Posting → List ℕ
 block_words entries = last_row entries ∷ (65_536 * length entries + length (block_code entries)) ∷ block_code entries
 
+-- the entries of a block
+abbrev pub block_entries : ℕ
+block_entries = 128
+
 abbrev pub coded_blocks : ℕ → List Posting → List ℕ
 coded_blocks more [] = []
 coded_blocks zero (e ∷ entries) = []
-coded_blocks (suc more) (e ∷ entries) = block_words (take 128 (e ∷ entries)) ++ coded_blocks more (drop 128 (e ∷ entries))
+coded_blocks (suc more) (e ∷ entries) = block_words (take block_entries (e ∷ entries)) ++ coded_blocks more (drop block_entries (e ∷ entries))
 
--- blocks of 128 entries, the last maybe shorter
+-- blocks of so many entries, the last maybe shorter
 unfoldable pub coded : List Posting → List ℕ
 coded entries = coded_blocks (length entries) entries
 

@@ -1,7 +1,7 @@
 -- What lists keep, while they grow and when they are sealed.
 use Rattle.std.specs.Prelude.{◌≡◌, ◌≢◌, ℕ, ◌<◌, ◌≤◌, ◌%◌, true, List, length, map, slice_index, slice_index_or, [], ◌∷◌, ◌++◌}
 use Rattle.sq_pool.specs.Pool.{Holding, IsLive, words_of}
-use Rattle.sq_coded.specs.Coded.{coded, decoded, is_list}
+use Rattle.sq_coded.specs.Coded.{coded, decoded, is_list, block_entries}
 use Rattle.sq_coded.specs.declared.posting.Posting.{Posting}
 
 -- ---- sealed lists
@@ -32,7 +32,7 @@ pub record AreCoded (pool : Holding) (chains : List ℕ) : Type 0 where
 -- the words are the code of whole blocks, behind which the open entries stand
 pub record IsOpen (words : List ℕ) (block : List Posting) : Type 0 where
   pub code : words ≡ coded (decoded words)
-  pub whole : length (decoded words) % 128 ≡ 0
+  pub whole : length (decoded words) % block_entries ≡ 0
   pub list : is_list (decoded words ++ block) ≡ true
 
 abbrev pub lists_of : Holding → List ℕ → List (List Posting) → List (List Posting)

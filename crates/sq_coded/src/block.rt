@@ -1,5 +1,5 @@
 ghost use Rattle.std.specs.Prelude.{◌≡◌, ◌<◌, ◌≤◌, nat_le, ◌++◌, ◌∷◌, [], length, OnOk, OnErr, IfOk};
-ghost use Rattle.sq_coded.specs.Coded.{block_words};
+ghost use Rattle.sq_coded.specs.Coded.{block_words, block_entries};
 
 use crate::code;
 use crate::posting::Posting;
@@ -15,13 +15,14 @@ pub(crate) struct Block {
 
 impl Model for Block {
     ghost use Rattle.std.specs.Prelude.{List, length, ◌≤◌};
+    ghost use Rattle.sq_coded.specs.Coded.{block_entries};
     ghost use Rattle.sq_coded.specs.declared.posting.Posting.{Posting};
 
     ghost Value = { List Posting };
 
     ghost view = { λ block. block.entries.items };
 
-    ghost invariant = { λ block. length block.entries.items ≤ 128 };
+    ghost invariant = { λ block. length block.entries.items ≤ block_entries };
 }
 
 impl Block {
@@ -41,14 +42,14 @@ impl Block {
     }
 
     pub(crate) fn is_full(&self) -> bool
-        ensures value { result ≡ nat_le 128 (length self.now) }
-        ensures most { length self.now ≤ 128 }
+        ensures value { result ≡ nat_le block_entries (length self.now) }
+        ensures most { length self.now ≤ block_entries }
     {
-        self.entries.len() >= code::BLOCK
+        self.entries.len() >= code::BLOCK_ENTRIES
     }
 
     pub(crate) fn push(&mut self, posting: Posting) -> Result<(), AllocError>
-        requires { length self.old < 128 }
+        requires { length self.old < block_entries }
         ensures ok { OnOk result (self.new ≡ self.old ++ posting ∷ []) }
         ensures err { OnErr result (self.new ≡ self.old) }
     {
@@ -65,7 +66,7 @@ impl Block {
     /// The words of the block.
     pub(crate) fn words(&self) -> Result<Vec<u32>, AllocError>
         ensures words { IfOk result (λ words. words.items ≡ block_words self.now) }
-        ensures most { length self.now ≤ 128 }
+        ensures most { length self.now ≤ block_entries }
     {
         code::block_words(self.alloc, &self.entries)
     }

@@ -1,12 +1,12 @@
 ghost use Rattle.std.specs.Prelude.{◌≡◌, ℕ, ◌+◌, ◌*◌, ◌<◌, ◌≤◌, true, ◌++◌, length, slice_index, OnOk, IfOk, List};
-ghost use Rattle.sq_coded.specs.Coded.{origin, number_bytes, numbers_bytes, difference, bytes_behind, packed, last_row, block_words, is_list, coded, decoded};
+ghost use Rattle.sq_coded.specs.Coded.{origin, number_bytes, numbers_bytes, difference, bytes_behind, packed, last_row, block_words, is_list, coded, decoded, block_entries};
 ghost use Rattle.sq_coded.specs.declared.posting.Posting.{Posting as Entry};
 
 use crate::posting::Posting;
 use std::alloc::{AllocError, Global};
 
 /// The postings of a block; the last block of a list may have fewer.
-pub(crate) const BLOCK: usize = 128;
+pub(crate) const BLOCK_ENTRIES: usize = 128;
 
 /// Adds the bytes of a number.
 fn add_number(bytes: &mut Vec<u8>, mut n: u32) -> Result<(), AllocError>
@@ -111,7 +111,7 @@ fn last_row(block: &[Posting]) -> u32
 
 /// The words of a block.
 pub(crate) fn block_words(alloc: Global, block: &[Posting]) -> Result<Vec<u32>, AllocError>
-    requires { length block.now ≤ 128 }
+    requires { length block.now ≤ block_entries }
     ensures { IfOk result (λ words. words.items ≡ block_words block.now) }
 {
     let bytes = block_bytes(alloc, block)?;
@@ -134,7 +134,7 @@ pub fn coded(alloc: Global, entries: &[Posting]) -> Result<Vec<u32>, AllocError>
     let mut words = Vec::new(alloc);
     let mut rest = entries;
     while !rest.is_empty() {
-        let (block, more) = rest.split_at(rest.len().min(BLOCK));
+        let (block, more) = rest.split_at(rest.len().min(BLOCK_ENTRIES));
         let next = block_words(alloc, block)?;
         words.extend_from_slice(&next)?;
         rest = more;

@@ -5,7 +5,8 @@ ghost use Rattle.sq_coded.specs.Kept.{IsOpen, AreOpen, AreCoded, lists_of, posti
 
 use crate::block::Block;
 use crate::lists::Lists;
-use crate::posting::{ORDINALS, PLACES, Posting, ROWS};
+use crate::posting::Posting;
+use sq_base::{MOST_CORPUS_BYTES, MOST_ITEMS, MOST_VALUES};
 use sq_pool::{Chain, Pool};
 use std::alloc::{AllocError, Global};
 use std::marker::Model;
@@ -39,7 +40,7 @@ impl Model for OpenLists {
 fn is_small(posting: Posting) -> bool
     ensures { result ≡ is_small posting }
 {
-    posting.row < ROWS && posting.ordinal < ORDINALS && posting.place < PLACES
+    posting.row < MOST_ITEMS && posting.ordinal < MOST_VALUES && posting.place < MOST_CORPUS_BYTES
 }
 
 /// Codes the open block into the chain. After `AllocError` both are as before.

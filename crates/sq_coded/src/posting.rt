@@ -1,12 +1,3 @@
-/// The rows of postings are below this number.
-pub(crate) const ROWS: u32 = 1_000_000;
-
-/// The ordinals of postings are below this number.
-pub(crate) const ORDINALS: u32 = 1_000;
-
-/// The places of postings are below this number.
-pub(crate) const PLACES: u32 = 67_108_864;
-
 /// Where a token stands. Postings are ordered by row, then ordinal, then place.
 #[derive(Clone, Copy, Debug, PartialEq, Eq)]
 pub struct Posting {

@@ -1,4 +1,5 @@
 ghost use Rattle.std.specs.Prelude.{◌*◌, ◌<◌, ◌≤◌, vec_len, vec_capacity};
+ghost use Rattle.sq_packet.specs.Limits.{greatest_page_end};
 
 use crate::kept::{cut, cut_to_places, rank};
 use sq_base::List;
@@ -43,7 +44,7 @@ impl Page {
         count: u32,
     ) -> Result<Page, AllocError>
         requires first { 1 ≤ start }
-        requires last { start + count ≤ 10_001 }
+        requires last { start + count ≤ greatest_page_end }
         ensures { IfOk result (λ page. IsPageOf order start count page []) }
     {
         let before = start - 1;

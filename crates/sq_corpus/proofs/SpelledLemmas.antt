@@ -13,12 +13,13 @@ use Rattle.std.proofs.lemmas.Int.{ints}
 use Rattle.std.proofs.lemmas.List.Concat.{flat_map-cons}
 use Rattle.std.proofs.lemmas.List.Folds.{list_all-append}
 use Rattle.sq_base.specs.Xml.{is_xml_char, is_xml_text}
+use Rattle.sq_base.specs.Limits.{most_corpus_bytes}
 use Rattle.sq_schema.specs.Names as schema_names
 use Rattle.sq_schema.specs.declared.values.NumberFault.{NumberFault}
 use Rattle.sq_schema.specs.declared.values.NumberFault.TheVariants.{Shape}
 use Rattle.sq_schema.specs.Values.{is_numeral, behind_minus, number_of, signed_64}
 use Rattle.sq_schema.specs.Bounds.{least_number, greatest_number}
-use Rattle.sq_model.specs.Limits.{most_corpus_bytes, most_name_bytes}
+use Rattle.sq_model.specs.Limits.{most_name_bytes}
 use Rattle.sq_model.specs.Valid.{is_name, is_text}
 use Rattle.sq_corpus.specs.Escapes.{escaped, unescaped, behind_backslash, text_of}
 use Rattle.sq_corpus.specs.Written.{escape, spelled}

@@ -1,9 +1,9 @@
 -- Laws of the definitions, which callers may use.
 use Rattle.std.specs.Prelude.{◌≡◌, ℕ, ◌≤◌, List, true, length, map, filter, Ok}
+use Rattle.sq_base.specs.Limits.{most_corpus_bytes}
 use Rattle.sq_schema.specs.declared.property.Property.{Property}
 use Rattle.sq_model.specs.declared.corpus.Corpus.{Corpus}
 use Rattle.sq_model.specs.declared.corpus.Item.{Item}
-use Rattle.sq_model.specs.Limits.{most_corpus_bytes}
 use Rattle.sq_model.specs.Valid.{IsValid, is_item}
 use Rattle.sq_corpus.specs.CorpusText.{corpus_of}
 use Rattle.sq_corpus.specs.Written.{corpus_text, is_at, values_from}

@@ -5,6 +5,7 @@ use Rattle.std.specs.Prelude.{ℕ, min, nat_lt, nat_le, Bool, true, false, not, 
 use Rattle.std.specs.List.{list_all, list_any}
 use Rattle.std.specs.Str.{bytes_eq, is_utf8}
 use Rattle.sq_base.specs.Xml.{is_xml_text}
+use Rattle.sq_base.specs.Limits.{most_values, most_items}
 use Rattle.sq_schema.specs.declared.interval.Interval.{Interval}
 use Rattle.sq_schema.specs.declared.property.Kind.{Kind}
 use Rattle.sq_schema.specs.declared.property.Kind.TheVariants.{Text, Integer, DateTime, YesNo}
@@ -14,12 +15,13 @@ use Rattle.sq_schema.specs.Bounds.{is_from_to}
 use Rattle.sq_schema.specs.Dates.{interval_of}
 use Rattle.sq_schema.specs.Properties.{is_sound, has_name}
 use Rattle.sq_schema.specs.Values.{number_of}
+use Rattle.sq_schema.specs.Limits.{most_rows}
 use Rattle.sq_model.specs.declared.corpus.Content.{Content}
 use Rattle.sq_model.specs.declared.corpus.Content.TheVariants.{Words, Number, Moment, Flag}
 use Rattle.sq_model.specs.declared.corpus.Value.{Value}
 use Rattle.sq_model.specs.declared.corpus.Item.{Item}
 use Rattle.sq_model.specs.declared.corpus.Caller.{Caller}
-use Rattle.sq_model.specs.Limits.{most_rows, most_claims, most_values, most_callers, most_items, greatest_item_number, least_rank, greatest_rank}
+use Rattle.sq_model.specs.Limits.{most_claims, most_callers, greatest_item_number, least_rank, greatest_rank}
 use Rattle.sq_model.specs.Valid.{is_name, count_of}
 use Rattle.sq_corpus.specs.declared.before.Before.{Before}
 use Rattle.sq_corpus.specs.declared.before.Stage.{Stage}

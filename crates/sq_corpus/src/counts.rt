@@ -1,5 +1,5 @@
 ghost use Rattle.std.specs.Prelude.{◌≡◌, ℕ, ◌+◌, ◌<◌, ◌^◌, ◌==◌, slice_index, if◌then◌else◌, OnOk};
-ghost use Rattle.sq_model.specs.Limits.{most_values};
+ghost use Rattle.sq_base.specs.Limits.{most_values};
 
 use std::alloc::AllocError;
 

@@ -1,6 +1,6 @@
 ghost use Rattle.std.specs.Prelude.{◌≡◌, ◌≤◌, true, length, IfOk};
 ghost use Rattle.std.specs.List.{list_all};
-ghost use Rattle.sq_model.specs.Limits.{most_corpus_bytes};
+ghost use Rattle.sq_base.specs.Limits.{most_corpus_bytes};
 ghost use Rattle.sq_model.specs.Valid.{IsValid, has_short_texts};
 ghost use Rattle.sq_corpus.specs.CorpusText as spec;
 ghost use Rattle.sq_corpus.specs.Keeps.{IsKept};

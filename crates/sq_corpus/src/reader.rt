@@ -1,5 +1,5 @@
 ghost use Rattle.std.specs.Prelude.{◌≡◌, ◌<◌, map, slice_index, position, IfOk, OnOk, Some, Ok};
-ghost use Rattle.sq_model.specs.Limits.{most_values};
+ghost use Rattle.sq_base.specs.Limits.{most_values};
 ghost use Rattle.sq_model.specs.Valid.{count_of};
 ghost use Rattle.sq_schema.specs.Properties.{has_name};
 ghost use Rattle.sq_corpus.specs.Escapes.{text_of};
@@ -17,19 +17,13 @@ use crate::pieces::fields_of;
 use crate::rows::{is_sound, is_taken, row_of, schema_of, schema_of_copies};
 use crate::values::{are_names, content_of, copies_of, is_name, item_number, list_fault, rank_of};
 use crate::words::{Flags, LineKind, flags_of, kind_of, line_kind};
-use sq_base::{List, Text, is_xml_text};
+use sq_base::{List, MOST_ITEMS, MOST_VALUES, Text, is_xml_text};
 use sq_model::{Caller, Content, Corpus, Item, Value};
-use sq_schema::{Kind, Schema};
+use sq_schema::{Kind, MOST_ROWS, Schema};
 use std::alloc::{AllocError, Global};
 use std::collections::BTreeSet;
 
-const ROW_LIMIT: usize = 64;
-
-const CALLER_LIMIT: usize = 10_000;
-
-const ITEM_LIMIT: usize = 1_000_000;
-
-const VALUE_LIMIT: u32 = 1_000;
+const MOST_CALLERS: usize = 10_000;
 
 /// Reads one line after another. After a refusal it is of no use.
 #[derive(Drop)]
@@ -131,7 +125,7 @@ impl Reader {
             Err(Refusal::Code(602))
         } else if is_taken(self.before.rows.as_slice(), name) {
             Err(Refusal::Code(605))
-        } else if self.before.rows.len() >= ROW_LIMIT {
+        } else if self.before.rows.len() >= MOST_ROWS {
             Err(Refusal::Code(608))
         } else {
             self.schema = None;
@@ -173,7 +167,7 @@ impl Reader {
             Err(Refusal::Code(605))
         } else if !good {
             Err(Refusal::Code(607))
-        } else if self.before.callers.len() >= CALLER_LIMIT {
+        } else if self.before.callers.len() >= MOST_CALLERS {
             Err(Refusal::Code(608))
         } else {
             let caller = Caller {
@@ -194,7 +188,7 @@ impl Reader {
         ensures kept { OnOk result (IsKept self.new) }
     {
         close(&mut self.before)?;
-        if self.before.items.len() >= ITEM_LIMIT {
+        if self.before.items.len() >= MOST_ITEMS as usize {
             Err(Refusal::Code(608))
         } else {
             self.counts.clear();
@@ -303,7 +297,7 @@ impl Reader {
     {
         if !multi && earlier > 0 {
             Err(Refusal::Code(605))
-        } else if earlier >= VALUE_LIMIT {
+        } else if earlier >= MOST_VALUES {
             Err(Refusal::Code(608))
         } else {
             self.hold(Value { property, content })

@@ -16,13 +16,13 @@ use sq_model::Content;
 use sq_schema::{Kind, day_interval, number};
 use std::alloc::{AllocError, Global};
 
-const NAME_LIMIT: usize = 128;
+const MOST_NAME_BYTES: usize = 128;
 
-const LAST_NUMBER: i64 = 4_294_967_294;
+const GREATEST_ITEM_NUMBER: i64 = 4_294_967_294;
 
-const LAST_RANK: i64 = 1_000_000_000;
+const GREATEST_RANK: i64 = 1_000_000_000;
 
-const CLAIM_LIMIT: usize = 64;
+const MOST_CLAIMS: usize = 64;
 
 const DATE_BYTES: usize = 10;
 
@@ -37,7 +37,10 @@ fn has_no_control(text: &str) -> bool
 pub(crate) fn is_name(field: &str) -> bool
     ensures { result ≡ valid.is_name field.now }
 {
-    1 <= field.len() && field.len() <= NAME_LIMIT && is_xml_text(field) && has_no_control(field)
+    1 <= field.len()
+        && field.len() <= MOST_NAME_BYTES
+        && is_xml_text(field)
+        && has_no_control(field)
 }
 
 /// Whether each field may be a claim.
@@ -70,7 +73,7 @@ pub(crate) fn item_number(field: &str) -> Option<u32>
 {
     match number(field) {
         Ok(n) => {
-            if 1 <= n && n <= LAST_NUMBER {
+            if 1 <= n && n <= GREATEST_ITEM_NUMBER {
                 Some(n as u32)
             } else {
                 None
@@ -87,7 +90,7 @@ pub(crate) fn rank_of(field: &str) -> Option<i64>
 {
     match number(field) {
         Ok(n) => {
-            if -LAST_RANK <= n && n <= LAST_RANK {
+            if -GREATEST_RANK <= n && n <= GREATEST_RANK {
                 Some(n)
             } else {
                 None
@@ -164,7 +167,7 @@ pub(crate) fn list_fault(claims: &[&str]) -> Option<u16>
 {
     if !are_names(claims) {
         Some(607)
-    } else if claims.len() > CLAIM_LIMIT {
+    } else if claims.len() > MOST_CLAIMS {
         Some(608)
     } else {
         None

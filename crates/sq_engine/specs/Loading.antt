@@ -1,7 +1,7 @@
 -- Engines of a corpus, and what loading one answers.
 use Rattle.std.specs.Prelude.{◌≡◌, ℕ, ◌≤◌, ◌<◌, ℤ, List, length, Result, Ok, Err}
+use Rattle.sq_base.specs.Limits.{most_corpus_bytes}
 use Rattle.sq_model.specs.declared.corpus.Corpus.{Corpus}
-use Rattle.sq_model.specs.Limits.{most_corpus_bytes}
 use Rattle.sq_corpus.specs.CorpusText.{corpus_of}
 use Rattle.sq_packet.specs.declared.request.Request.{Request}
 use Rattle.sq_engine.specs.declared.engine.Engine.{Ghosts}

@@ -4,7 +4,7 @@ use Rattle.std.proofs.lemmas.Str.{chars_past_char, chars-nil}
 use Rattle.std.specs.List.{All, AllByRecursion}
 use Rattle.std.proofs.lemmas.List.Elements.{recursion_from_All}
 use Rattle.sq_fql.specs.CanonLaw.{AreTexts, EachTexts}
-use Rattle.sq_lex.specs.Bytes.{Text}
+use Rattle.sq_lex.specs.Bytes.{TextBytes}
 use Rattle.sq_fql.specs.Canon.{canon, canon_each, escaped, listed, operator_word, parameters_text}
 use Rattle.sq_fql.specs.declared.raw.Op.{Op}
 use Rattle.sq_fql.specs.declared.raw.FRaw.{FRaw, Scope, Apply, Row_of-FRaw, end_of-FRaw, more_of-FRaw, items-the_row-FRaw, items_hidden-the_row-FRaw-1}
@@ -17,7 +17,7 @@ canon_of_row (more_of-FRaw tree rest) = ap (λ r. canon tree ∷ r) (canon_of_ro
 canon_of_list : (trees : List FRaw) → canon_each (hidden-the_row-FRaw-1 trees) ≡ map canon trees
 canon_of_list trees = canon_of_row (hidden-the_row-FRaw-1 trees) ∙ ap (map canon) (items_hidden-the_row-FRaw-1 trees)
 
-pub canon_scope : (at : ℕ) (name : Text) (inner : FRaw) → canon (Scope at name inner) ≡ name ++ codes ":" ++ canon inner
+pub canon_scope : (at : ℕ) (name : TextBytes) (inner : FRaw) → canon (Scope at name inner) ≡ name ++ codes ":" ++ canon inner
 unfolding shape-the_row-FRaw-0 hidden-the_row-FRaw-0 denote.Hole.Carrier.hidden
 canon_scope at name inner = refl
 
@@ -25,13 +25,13 @@ pub canon_apply : (at : ℕ) (o : Op) (operands : List FRaw) → canon (Apply at
 canon_apply at o operands = ap (λ texts. operator_word o ++ codes "(" ++ listed false texts ++ parameters_text o ++ codes ")") (canon_of_list operands)
 
 -- What is printed piece after piece.
-module _ (tree : FRaw) (at : ℕ) (old x new : Text) where
-  pub scope_printed : (name : Text) (inner : FRaw) → tree ≡ Scope at name inner → x ≡ old ++ name ++ codes ":" → new ≡ x ++ canon inner → new ≡ old ++ canon tree
+module _ (tree : FRaw) (at : ℕ) (old x new : TextBytes) where
+  pub scope_printed : (name : TextBytes) (inner : FRaw) → tree ≡ Scope at name inner → x ≡ old ++ name ++ codes ":" → new ≡ x ++ canon inner → new ≡ old ++ canon tree
   scope_printed name inner is first second =
       second ∙ (ap (λ l. l ++ canon inner) (first ∙ append_assoc old name (codes ":")) ∙ (append_assoc old (name ++ codes ":") (canon inner)
       ∙ ap (λ l. old ++ l) (sym (ap canon is ∙ canon_scope at name inner))))
 
-  pub apply_printed : (o : Op) (operands shown : List FRaw) (y : Text) → tree ≡ Apply at o operands → shown ≡ operands → x ≡ old ++ operator_word o ++ codes "("
+  pub apply_printed : (o : Op) (operands shown : List FRaw) (y : TextBytes) → tree ≡ Apply at o operands → shown ≡ operands → x ≡ old ++ operator_word o ++ codes "("
       → y ≡ x ++ listed false (map canon shown) → new ≡ y ++ parameters_text o ++ codes ")" → new ≡ old ++ canon tree
   apply_printed o operands shown y is same first second third =
       let texts = listed false (map canon operands) in
@@ -43,11 +43,11 @@ module _ (tree : FRaw) (at : ℕ) (old x new : Text) where
       third ∙ (ap (λ l. l ++ codes ")") done ∙ (append_assoc old (head ++ texts ++ end) (codes ")") ∙ ap (λ l. old ++ l) (sym (ap canon is ∙ canon_apply at o operands))))
 
 -- a string's characters, one after the other
-pub escaped_on : (front bytes rest whole : Text) (c : ℕ) → IsUtf8 bytes → bytes ≡ encode_utf8 c ++ rest → front ++ flat_map escaped (chars bytes) ≡ whole
+pub escaped_on : (front bytes rest whole : TextBytes) (c : ℕ) → IsUtf8 bytes → bytes ≡ encode_utf8 c ++ rest → front ++ flat_map escaped (chars bytes) ≡ whole
     → front ++ escaped c ++ flat_map escaped (chars rest) ≡ whole
 escaped_on front bytes rest whole c utf8 cut kept = append_assoc front (escaped c) (flat_map escaped (chars rest)) ∙ (rw (chars_past_char bytes rest c utf8 cut) at kept)
 
-pub escaped_end : (front rest whole : Text) → length rest ≡ 0 → front ++ flat_map escaped (chars rest) ≡ whole → front ≡ whole
+pub escaped_end : (front rest whole : TextBytes) → length rest ≡ 0 → front ++ flat_map escaped (chars rest) ≡ whole → front ≡ whole
 escaped_end front [] whole none kept = sym (append-nil front) ∙ (rw chars-nil at kept)
 escaped_end front (c ∷ rest) whole none kept = absurd (omega arith)
 
@@ -59,7 +59,7 @@ each_of_row : {m : _} (row : Row_of-FRaw m) → AllByRecursion AreTexts (items-t
 each_of_row end_of-FRaw all = tt
 each_of_row (more_of-FRaw part rest) all = (all.0, each_of_row rest all.1)
 
-pub texts_scope : (tree inner : FRaw) (at : ℕ) (name : Text) → tree ≡ Scope at name inner → AreTexts inner → AreTexts tree
+pub texts_scope : (tree inner : FRaw) (at : ℕ) (name : TextBytes) → tree ≡ Scope at name inner → AreTexts inner → AreTexts tree
 unfolding shape-the_row-FRaw-0 hidden-the_row-FRaw-0 denote.Hole.Carrier.hidden
 texts_scope tree inner at name is one = subst AreTexts (sym is) (one, tt)
 

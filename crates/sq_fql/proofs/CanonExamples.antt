@@ -3,7 +3,7 @@ use Rattle.std.proofs.Common.{◌≡◌, [], ◌∷◌, refl}
 use Rattle.std.specs.Prelude.{codes, negsuc, false}
 use Rattle.std.specs.Str.{chars}
 use Rattle.std.specs.Fmt.{digits}
-use Rattle.sq_lex.specs.Bytes.{Text}
+use Rattle.sq_lex.specs.Bytes.{TextBytes}
 use Rattle.sq_fql.specs.declared.raw.FRaw.{FRaw}
 use Rattle.sq_fql.specs.declared.raw.FRaw.TheVariants as tree
 use Rattle.sq_fql.specs.declared.raw.FRaw.TheBlock.{shape-the_row-FRaw-0, hidden-the_row-FRaw-0, hidden-the_row-FRaw-1}
@@ -12,7 +12,7 @@ use Rattle.sq_fql.specs.declared.raw.Op.TheVariants as op
 use Rattle.sq_fql.specs.Canon.{canon}
 use Rattle.sq_fql.specs.Read.{piece}
 
-abbrev phrase : Text → FRaw
+abbrev phrase : TextBytes → FRaw
 phrase text = tree.Apply 0 (op.Str mode.Phrase 4) (piece 0 text ∷ [])
 
 whole_query : canon (tree.Apply 0 op.AndNot (tree.Apply 0 op.And (tree.Apply 0 op.Or (phrase (codes "merger") ∷ phrase (codes "takeover") ∷ [])

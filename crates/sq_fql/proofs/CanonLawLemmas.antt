@@ -1,11 +1,10 @@
 -- Canonical texts are read as their trees: by induction on the tree, from the end of its text to the front.
 use Rattle.std.proofs.Common.{◌≡◌, ℕ, zero, suc, ◌+◌, ◌<◌, ◌≤◌, nat_lt, true, false, List, [], ◌∷◌, ◌++◌, length, drop, codes, Some, Result, Ok, Err, IfOk, refl, sym, ◌∙◌, ap, subst, arith, append_assoc, append-nil, length-append}
 use Rattle.std.proofs.lemmas.Bool.Decides.{nat_tests}
-use Rattle.sq_lex.specs.declared.codes.TheConstants.{MAX_TEXT}
 use Rattle.sq_lex.specs.declared.fql_lexeme.FLexeme.{FLexeme}
-use Rattle.sq_lex.specs.Bytes.{Text}
+use Rattle.sq_lex.specs.Bytes.{TextBytes}
 use Rattle.sq_lex.specs.Fql.{fql_lexemes_of}
-use Rattle.sq_fql.specs.declared.codes.TheConstants.{MAX_LEVELS}
+use Rattle.sq_lex.specs.Limits.{most_text_bytes, most_levels}
 use Rattle.sq_fql.specs.declared.raw.FRaw.{FRaw, All, Literal, Scope', Apply', Row_of-FRaw, end_of-FRaw, more_of-FRaw}
 use Rattle.sq_fql.specs.declared.raw.FRaw.TheVariants as tree
 use Rattle.sq_fql.specs.declared.raw.Op.{Op}
@@ -90,19 +89,19 @@ operator_some (op.Xrank cb) = omega arith
 
 -- ---- texts of trees
 
-apply_split : (w x l p r : Text) → w ++ codes "(" ++ (x ++ l) ++ p ++ codes ")" ++ r ≡ w ++ 40 ∷ (x ++ (l ++ (p ++ 41 ∷ r)))
+apply_split : (w x l p r : TextBytes) → w ++ codes "(" ++ (x ++ l) ++ p ++ codes ")" ++ r ≡ w ++ 40 ∷ (x ++ (l ++ (p ++ 41 ∷ r)))
 apply_split w x l p r =
     append_assoc (w ++ codes "(" ++ (x ++ l) ++ p) (codes ")") r
     ∙ (append_assoc (w ++ codes "(" ++ (x ++ l)) p (41 ∷ r)
     ∙ (append_assoc (w ++ codes "(") (x ++ l) (p ++ 41 ∷ r)
     ∙ (append_assoc w (codes "(") ((x ++ l) ++ (p ++ 41 ∷ r)) ∙ ap (λ m. w ++ 40 ∷ m) (append_assoc x l (p ++ 41 ∷ r)))))
 
-apply_length : (w x l p : Text) → length (w ++ codes "(" ++ (x ++ l) ++ p ++ codes ")") ≡ length w + 1 + length x + length l + length p + 1
+apply_length : (w x l p : TextBytes) → length (w ++ codes "(" ++ (x ++ l) ++ p ++ codes ")") ≡ length w + 1 + length x + length l + length p + 1
 apply_length w x l p =
     omega (arith, length-append (w ++ codes "(" ++ (x ++ l) ++ p) (codes ")"), length-append (w ++ codes "(" ++ (x ++ l)) p, length-append (w ++ codes "(") (x ++ l), length-append w (codes "("), length-append x l)
 
 mutual
-  reads_tree : (k : ℕ) (z : Text) (t : FRaw) (at : ℕ) (r : Text) (xs : List FLexeme) → HasForm t → AreTexts t → levels t ≤ k → drop at z ≡ canon t ++ r
+  reads_tree : (k : ℕ) (z : TextBytes) (t : FRaw) (at : ℕ) (r : TextBytes) (xs : List FLexeme) → HasForm t → AreTexts t → levels t ≤ k → drop at z ≡ canon t ++ r
       → IsEnd (drop (at + length (canon t)) z) xs → Lexes z (at + length (canon t)) xs → ReadsTree k z at t xs
   reads_tree k z (All old) at r xs form texts deep e end more = star_tree k z r at old xs e (subst (λ l. IsEnd l xs) (rest_behind z (codes "*") r at e) end) more
   reads_tree k z (Literal p) at r xs form texts deep e end more =
@@ -118,7 +117,7 @@ mutual
   reads_tree (suc k) z (Apply' old o s row) at r xs form texts deep e end more =
       reads_apply k z row o at old r xs form.0 form.1 form.2 texts (omega arith) e more (Apply' old o s row) refl refl
 
-  reads_apply : {m : _} (k : ℕ) (z : Text) (row : Row_of-FRaw m) (o : Op) (at old : ℕ) (r : Text) (xs : List FLexeme) → AreOperands (operands_of (operator_in o)) row → IsWithinLimits o
+  reads_apply : {m : _} (k : ℕ) (z : TextBytes) (row : Row_of-FRaw m) (o : Op) (at old : ℕ) (r : TextBytes) (xs : List FLexeme) → AreOperands (operands_of (operator_in o)) row → IsWithinLimits o
       → HaveForm row → EachTexts row → levels_each row ≤ k → drop at z ≡ operator_word o ++ codes "(" ++ listed false (canon_each row) ++ parameters_text o ++ codes ")" ++ r
       → Lexes z (at + length (operator_word o ++ codes "(" ++ listed false (canon_each row) ++ parameters_text o ++ codes ")")) xs → (u : FRaw) → is_literal u ≡ false
       → unplaced u ≡ tree.Apply 0 o (unplaced_each row) → ReadsTree (suc k) z at u xs
@@ -140,7 +139,7 @@ mutual
       (list_reads k z r (operator_in o) (at + length w + 1) (at + length w + 1 + length x) t rest c.given xs m (λ is. (arity.literals is).0) i)
       arity.least arity.most c.makes u other plain
 
-  reads_more : {m : _} (k : ℕ) (z : Text) (row : Row_of-FRaw m) (op : Operator) (at : ℕ) (q : Text) (g : Given) (xs : List FLexeme) → HaveForm row → EachTexts row → levels_each row ≤ k
+  reads_more : {m : _} (k : ℕ) (z : TextBytes) (row : Row_of-FRaw m) (op : Operator) (at : ℕ) (q : TextBytes) (g : Given) (xs : List FLexeme) → HaveForm row → EachTexts row → levels_each row ≤ k
       → ((operands_of op).literals ≡ true → AreLiterals row) → drop at z ≡ listed true (canon_each row) ++ q → Closes k z op (at + length (listed true (canon_each row))) nothing_given g xs
       → ReadsMore k z op at row g xs
   reads_more k z end_of-FRaw op at q g xs form texts deep literals e c =
@@ -158,10 +157,10 @@ mutual
 
 -- ---- the law
 
-read_whole : (z : Text) (t : FRaw) (i : ReadsTree MAX_LEVELS z 0 t []) → length z ≤ MAX_TEXT → read_of z ≡ Ok i.found
+read_whole : (z : TextBytes) (t : FRaw) (i : ReadsTree most_levels z 0 t []) → length z ≤ most_text_bytes → read_of z ≡ Ok i.found
 unfolding read_of fql_lexemes_of whole_of
 read_whole z t i short =
-    let test : nat_lt MAX_TEXT (length z) ≡ false = grind (arith, nat_tests) in
+    let test : nat_lt most_text_bytes (length z) ≡ false = grind (arith, nat_tests) in
     rw (test, i.lexed (length z) (omega arith), i.read) refl
 
 pub reads_back : CanonReadsBack
@@ -170,9 +169,9 @@ reads_back t well texts deep short =
     let there : drop 0 z ≡ canon t ++ [] = sym (append-nil z) in
     let done : drop (0 + length z) z ≡ [] = rest_behind z z [] 0 there in
     let end : IsEnd (drop (0 + length z) z) [] = subst (λ l. IsEnd l []) (sym done) (record { term = refl; parameter = refl; role = refl }) in
-    let i = reads_tree MAX_LEVELS z t 0 [] [] well.form texts deep there end (lexes_end z (0 + length z) done) in
+    let i = reads_tree most_levels z t 0 [] [] well.form texts deep there end (lexes_end z (0 + length z) done) in
     record { found = i.found; read = read_whole z t i short; same = i.same }
 
-pub printed_reads_back : {E : Type 0} (r : Result (List ℕ) E) (z : Text) (t : FRaw) → IfOk r (λ text. text ≡ z) → z ≡ canon t → AreTexts t → IfOk r (λ text. ReadsBack text t)
-printed_reads_back (Ok text) z t same is texts = λ well deep short. subst (λ l. IsReadAs l t) (sym (same ∙ is)) (reads_back t well texts deep (subst (λ l. length l ≤ MAX_TEXT) (same ∙ is) short))
+pub printed_reads_back : {E : Type 0} (r : Result (List ℕ) E) (z : TextBytes) (t : FRaw) → IfOk r (λ text. text ≡ z) → z ≡ canon t → AreTexts t → IfOk r (λ text. ReadsBack text t)
+printed_reads_back (Ok text) z t same is texts = λ well deep short. subst (λ l. IsReadAs l t) (sym (same ∙ is)) (reads_back t well texts deep (subst (λ l. length l ≤ most_text_bytes) (same ∙ is) short))
 printed_reads_back (Err e) z t same is texts = tt

@@ -8,19 +8,19 @@ use Rattle.std.proofs.lemmas.Str.Parse.{IsNumeralModel, numerals_by_fold}
 use Rattle.std.specs.Fmt.{decimal, signed_decimal}
 use Rattle.std.specs.Char.{is_ascii_digit}
 use Rattle.std.specs.List.{list_all}
-use Rattle.sq_lex.specs.Bytes.{Text}
+use Rattle.sq_lex.specs.Bytes.{TextBytes}
 use Rattle.sq_fql.specs.Number.{size_from, size, natural, whole}
 use Rattle.sq_fql.proofs.CanonLexLemmas.{both_left, both_right}
 
-abbrev value_from : ℕ → Text → ℕ
+abbrev value_from : ℕ → TextBytes → ℕ
 value_from n [] = n
 value_from n (b ∷ z) = value_from (10 * n + (b - 48)) z
 
-value_grows : (n : ℕ) (z : Text) → n ≤ value_from n z
+value_grows : (n : ℕ) (z : TextBytes) → n ≤ value_from n z
 value_grows n [] = omega arith
 value_grows n (b ∷ z) = let more = value_grows (10 * n + (b - 48)) z in omega arith
 
-size_whole : (n : ℕ) (z : Text) (limit : ℕ) → list_all is_ascii_digit z ≡ true → value_from n z ≤ limit → size_from n z limit ≡ Some (value_from n z)
+size_whole : (n : ℕ) (z : TextBytes) (limit : ℕ) → list_all is_ascii_digit z ≡ true → value_from n z ≤ limit → size_from n z limit ≡ Some (value_from n z)
 size_whole n [] limit all small = refl
 size_whole n (b ∷ z) limit all small =
     let first = both_left (is_ascii_digit b) (list_all is_ascii_digit z) all in
@@ -39,17 +39,17 @@ module _ (n : ℕ) (wide : n < 2 ^ 64) where
   decimal_value : value_from 0 (decimal n) ≡ n
   decimal_value = digits_value-decimal own n wide
 
-some_size : (z : Text) (n limit : ℕ) → 0 < length z → list_all is_ascii_digit z ≡ true → value_from 0 z ≡ n → n ≤ limit → size z limit ≡ Some n
+some_size : (z : TextBytes) (n limit : ℕ) → 0 < length z → list_all is_ascii_digit z ≡ true → value_from 0 z ≡ n → n ≤ limit → size z limit ≡ Some n
 some_size [] n limit some all is small = absurd (omega arith)
 some_size (b ∷ z) n limit some all is small = size_whole 0 (b ∷ z) limit all (omega (arith, is)) ∙ ap (λ m. Some m) is
 
-unsigned : (z : Text) (limit : ℕ) → list_all is_ascii_digit z ≡ true → natural z limit ≡ size z limit
+unsigned : (z : TextBytes) (limit : ℕ) → list_all is_ascii_digit z ≡ true → natural z limit ≡ size z limit
 unsigned [] limit all = refl
 unsigned (b ∷ z) limit all =
     let first = both_left (is_ascii_digit b) (list_all is_ascii_digit z) all in
     let plain : (b == 45) ≡ false = grind (arith, nat_tests, first) in rw plain refl
 
-positive : (z : Text) (limit : ℕ) → 0 < length z → list_all is_ascii_digit z ≡ true → whole z limit ≡ option_map pos (size z limit)
+positive : (z : TextBytes) (limit : ℕ) → 0 < length z → list_all is_ascii_digit z ≡ true → whole z limit ≡ option_map pos (size z limit)
 positive [] limit some all = absurd (omega arith)
 positive (b ∷ z) limit some all =
     let first = both_left (is_ascii_digit b) (list_all is_ascii_digit z) all in

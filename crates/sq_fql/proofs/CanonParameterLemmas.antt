@@ -10,10 +10,10 @@ use Rattle.std.specs.Fmt.{decimal, signed_decimal}
 use Rattle.sq_lex.specs.declared.class.Class.TheVariants as class
 use Rattle.sq_lex.specs.declared.fql_lexeme.FKind.TheVariants as kind
 use Rattle.sq_lex.specs.declared.fql_lexeme.FLexeme.{FLexeme}
-use Rattle.sq_lex.specs.Bytes.{Text, is_in}
+use Rattle.sq_lex.specs.Bytes.{TextBytes, is_in}
 use Rattle.sq_lex.specs.Fql.{lexeme}
 use Rattle.sq_base.specs.Outcome.{◌>>=◌}
-use Rattle.sq_fql.specs.declared.codes.TheConstants.{MAX_BOOST, MAX_COUNT, MAX_NEAR}
+use Rattle.sq_base.specs.Limits.{greatest_distance, greatest_boost}
 use Rattle.sq_fql.specs.declared.raw.Mode.{Mode}
 use Rattle.sq_fql.specs.declared.raw.Mode.TheVariants as mode
 use Rattle.sq_fql.specs.declared.raw.Op.{Op}
@@ -33,15 +33,16 @@ use Rattle.sq_fql.proofs.CanonNumberLemmas.{decimal_digits, natural_decimal, who
 use Rattle.sq_fql.proofs.CanonReadLemmas.{number_lexes}
 use Rattle.sq_fql.proofs.CanonStringLemmas.{string_lexes, string_content}
 use Rattle.sq_fql.proofs.CanonTreeLemmas.{Closes, closes_end, closes_on}
+use Rattle.sq_fql.specs.Limits.{greatest_count}
 
 -- A value of a parameter stands at a place.
-pub record ReadsValue (z : Text) (at : ℕ) (value : Text) (xs : List FLexeme) : Type 0 where
+pub record ReadsValue (z : TextBytes) (at : ℕ) (value : TextBytes) (xs : List FLexeme) : Type 0 where
   pub first : FLexeme
   pub lexed : Lexes z at (first ∷ xs)
   pub begins : wanted z (first ∷ xs) ≡ Ok first
   pub is : content z first ≡ value
 
-number_reads : (z r text : Text) (at : ℕ) (xs : List FLexeme) → is_number text ≡ true → drop at z ≡ text ++ r → stops (is_in class.Parameter) r ≡ true → Lexes z (at + length text) xs
+number_reads : (z r text : TextBytes) (at : ℕ) (xs : List FLexeme) → is_number text ≡ true → drop at z ≡ text ++ r → stops (is_in class.Parameter) r ≡ true → Lexes z (at + length text) xs
     → ReadsValue z at text xs
 number_reads z r text at xs number e stop more = record {
   first = lexeme kind.Word at (at + length text);
@@ -51,10 +52,10 @@ number_reads z r text at xs number e stop more = record {
 }
 
 -- a word that is written between quotes as it is
-abbrev pub IsPlain : Text → Type 0
+abbrev pub IsPlain : TextBytes → Type 0
 IsPlain word = (word_value word ≡ quoted word) × IsUtf8 word
 
-word_reads : (z r word : Text) (at : ℕ) (xs : List FLexeme) → IsPlain word → drop at z ≡ word_value word ++ r → Lexes z (at + length (word_value word)) xs → ReadsValue z at word xs
+word_reads : (z r word : TextBytes) (at : ℕ) (xs : List FLexeme) → IsPlain word → drop at z ≡ word_value word ++ r → Lexes z (at + length (word_value word)) xs → ReadsValue z at word xs
 word_reads z r word at xs plain e more =
     let there : drop at z ≡ quoted word ++ r = e ∙ ap (λ l. l ++ r) plain.0 in
     record {
@@ -65,22 +66,22 @@ word_reads z r word at xs plain e more =
     }
 
 -- A parameter, behind the comma at a place, sets what is given.
-pub record Sets (z : Text) (op : Operator) (at : ℕ) (name shown : Text) (before now : Given) : Type 0 where
-  value : Text
+pub record Sets (z : TextBytes) (op : Operator) (at : ℕ) (name shown : TextBytes) (before now : Given) : Type 0 where
+  value : TextBytes
   parameter : Parameter
   is_name : IsName name
   is : named name (parameters op) ≡ Some parameter
   reads : (x : FLexeme) (ls : List FLexeme) → parameter_by (Some parameter) z before x ls ≡ (wanted z ls >>= λ v. with_value (Some parameter) (content z v) x.from before)
   set : with_value (Some parameter) value (at + 1) before ≡ Ok now
-  valued : (place : ℕ) (r : Text) (xs : List FLexeme) → drop place z ≡ shown ++ r → stops (is_in class.Parameter) r ≡ true → Lexes z (place + length shown) xs → ReadsValue z place value xs
+  valued : (place : ℕ) (r : TextBytes) (xs : List FLexeme) → drop place z ≡ shown ++ r → stops (is_in class.Parameter) r ≡ true → Lexes z (place + length shown) xs → ReadsValue z place value xs
 
-assigned_split : (name shown r : Text) → assigned name shown ++ r ≡ 44 ∷ (name ++ 61 ∷ (shown ++ r))
+assigned_split : (name shown r : TextBytes) → assigned name shown ++ r ≡ 44 ∷ (name ++ 61 ∷ (shown ++ r))
 assigned_split name shown r = ap (λ l. 44 ∷ l) (append_assoc (name ++ 61 ∷ []) shown r ∙ append_assoc name (61 ∷ []) (shown ++ r))
 
-assigned_length : (name shown : Text) → length (assigned name shown) ≡ 1 + length name + 1 + length shown
+assigned_length : (name shown : TextBytes) → length (assigned name shown) ≡ 1 + length name + 1 + length shown
 assigned_length name shown = omega (arith, length-append (name ++ 61 ∷ []) shown, length-append name (61 ∷ []))
 
-module _ (k : ℕ) (z r name shown : Text) (op : Operator) (at : ℕ) (before now after : Given) (xs : List FLexeme) (s : Sets z op at name shown before now) (e : drop at z ≡ assigned name shown ++ r) where
+module _ (k : ℕ) (z r name shown : TextBytes) (op : Operator) (at : ℕ) (before now after : Given) (xs : List FLexeme) (s : Sets z op at name shown before now) (e : drop at z ≡ assigned name shown ++ r) where
   split : drop at z ≡ 44 ∷ (name ++ 61 ∷ (shown ++ r))
   split = e ∙ assigned_split name shown r
 
@@ -103,16 +104,16 @@ module _ (k : ℕ) (z r name shown : Text) (op : Operator) (at : ℕ) (before no
       closes_on k z (shown ++ r) name op at (at + length (assigned name shown)) before now after xs v.first c split s.is_name v.lexed (set_by c.lexemes v)
 
 -- nothing, one parameter or two, and `)`
-no_parameter : (k : ℕ) (z r : Text) (op : Operator) (at : ℕ) (before : Given) (xs : List FLexeme) → drop at z ≡ 41 ∷ r → Lexes z (at + 0 + 1) xs → Closes k z op at before before xs
+no_parameter : (k : ℕ) (z r : TextBytes) (op : Operator) (at : ℕ) (before : Given) (xs : List FLexeme) → drop at z ≡ 41 ∷ r → Lexes z (at + 0 + 1) xs → Closes k z op at before before xs
 no_parameter k z r op at before xs e more = let place : at + 0 + 1 ≡ at + 1 = omega arith in closes_end k z r op at before xs e (subst (λ n. Lexes z n xs) place more)
 
-one_parameter : (k : ℕ) (z r name shown : Text) (op : Operator) (at : ℕ) (before now : Given) (xs : List FLexeme) → Sets z op at name shown before now → drop at z ≡ assigned name shown ++ 41 ∷ r
+one_parameter : (k : ℕ) (z r name shown : TextBytes) (op : Operator) (at : ℕ) (before now : Given) (xs : List FLexeme) → Sets z op at name shown before now → drop at z ≡ assigned name shown ++ 41 ∷ r
     → Lexes z (at + length (assigned name shown) + 1) xs → Closes k z op at before now xs
 one_parameter k z r name shown op at before now xs s e more =
     parameter_closes k z (41 ∷ r) name shown op at before now now xs s e refl
     (closes_end k z r op (at + length (assigned name shown)) now xs (rest_behind z (assigned name shown) (41 ∷ r) at e) more)
 
-two_parameters : (k : ℕ) (z r name shown name_2 shown_2 : Text) (op : Operator) (at : ℕ) (before now after : Given) (xs : List FLexeme) → Sets z op at name shown before now
+two_parameters : (k : ℕ) (z r name shown name_2 shown_2 : TextBytes) (op : Operator) (at : ℕ) (before now after : Given) (xs : List FLexeme) → Sets z op at name shown before now
     → Sets z op (at + length (assigned name shown)) name_2 shown_2 now after → drop at z ≡ assigned name shown ++ assigned name_2 shown_2 ++ 41 ∷ r
     → Lexes z (at + length (assigned name shown ++ assigned name_2 shown_2) + 1) xs → Closes k z op at before after xs
 two_parameters k z r name shown name_2 shown_2 op at before now after xs s t e more =
@@ -169,13 +170,13 @@ upper_plain : (below : Bool) → IsPlain (upper_word below)
 upper_plain true = lt_plain
 upper_plain false = le_plain
 
-digits_number : (ds : Text) → 0 < length ds → list_all is_ascii_digit ds ≡ true → is_number ds ≡ true
+digits_number : (ds : TextBytes) → 0 < length ds → list_all is_ascii_digit ds ≡ true → is_number ds ≡ true
 digits_number [] some all = absurd (omega arith)
 digits_number (b ∷ ds) some all =
     let first = both_left (is_ascii_digit b) (list_all is_ascii_digit ds) all in
     let plain : (b == 45) ≡ false = grind (arith, nat_tests, first) in rw plain all
 
-some_digits : (ds : Text) → 0 < length ds → list_all is_ascii_digit ds ≡ true → are_digits ds ≡ true
+some_digits : (ds : TextBytes) → 0 < length ds → list_all is_ascii_digit ds ≡ true → are_digits ds ≡ true
 some_digits [] some all = absurd (omega arith)
 some_digits (b ∷ ds) some all = all
 
@@ -186,7 +187,7 @@ signed_number : (cb : ℤ) → unsigned_abs cb < 2 ^ 64 → is_number (signed_de
 signed_number (pos n) wide = decimal_number n (omega arith)
 signed_number (negsuc n) wide = let small : suc n < 2 ^ 64 = omega arith in some_digits (decimal (suc n)) (decimal_nonempty (suc n) small) (decimal_digits (suc n) small)
 
-module _ (z name shown : Text) (op : Operator) (at : ℕ) (before now : Given) (p : Parameter) (named_so : IsName name) (is : named name (parameters op) ≡ Some p)
+module _ (z name shown : TextBytes) (op : Operator) (at : ℕ) (before now : Given) (p : Parameter) (named_so : IsName name) (is : named name (parameters op) ≡ Some p)
     (reads : (x : FLexeme) (ls : List FLexeme) → parameter_by (Some p) z before x ls ≡ (wanted z ls >>= λ v. with_value (Some p) (content z v) x.from before)) where
   number_sets : is_number shown ≡ true → with_value (Some p) shown (at + 1) before ≡ Ok now → Sets z op at name shown before now
   number_sets number set = record {
@@ -199,7 +200,7 @@ module _ (z name shown : Text) (op : Operator) (at : ℕ) (before now : Given) (
     valued = λ place r xs e stop more. number_reads z r shown place xs number e stop more;
   }
 
-word_sets : (z name word : Text) (op : Operator) (at : ℕ) (before now : Given) (p : Parameter) → IsName name → named name (parameters op) ≡ Some p
+word_sets : (z name word : TextBytes) (op : Operator) (at : ℕ) (before now : Given) (p : Parameter) → IsName name → named name (parameters op) ≡ Some p
     → ((x : FLexeme) (ls : List FLexeme) → parameter_by (Some p) z before x ls ≡ (wanted z ls >>= λ v. with_value (Some p) (content z v) x.from before))
     → IsPlain word → with_value (Some p) word (at + 1) before ≡ Ok now → Sets z op at name (word_value word) before now
 word_sets z name word op at before now p named_so is reads plain set = record {
@@ -229,49 +230,49 @@ mode_name = record { letter = refl; word = refl }
 cb_name : IsName (codes "cb")
 cb_name = record { letter = refl; word = refl }
 
-near_limit : MAX_NEAR < 2 ^ 64
+near_limit : greatest_distance < 2 ^ 64
 near_limit = omega arith
 
-count_limit : MAX_COUNT < 2 ^ 64
+count_limit : greatest_count < 2 ^ 64
 count_limit = omega arith
 
-boost_limit : MAX_BOOST < 2 ^ 64
+boost_limit : greatest_boost < 2 ^ 64
 boost_limit = omega arith
 
 abbrev with_n : ℕ → ℕ → Given → Given
 with_n n at g = record g { n = Some (record { value = n; at = at + 1 }) }
 
 -- a distance where none is given yet
-n_set : (n at : ℕ) (g : Given) → n ≤ MAX_NEAR → g.n ≡ None → with_value (Some parameter.Distance) (decimal n) (at + 1) g ≡ Ok (with_n n at g)
-n_set n at g small none = rw (natural_decimal n MAX_NEAR small near_limit, none) refl
+n_set : (n at : ℕ) (g : Given) → n ≤ greatest_distance → g.n ≡ None → with_value (Some parameter.Distance) (decimal n) (at + 1) g ≡ Ok (with_n n at g)
+n_set n at g small none = rw (natural_decimal n greatest_distance small near_limit, none) refl
 
-n_sets : (z : Text) (op : Operator) (n at : ℕ) (g : Given) → named (codes "N") (parameters op) ≡ Some parameter.Distance → n ≤ MAX_NEAR → g.n ≡ None
+n_sets : (z : TextBytes) (op : Operator) (n at : ℕ) (g : Given) → named (codes "N") (parameters op) ≡ Some parameter.Distance → n ≤ greatest_distance → g.n ≡ None
     → Sets z op at (codes "N") (decimal n) g (with_n n at g)
 n_sets z op n at g is small none =
     let low = near_limit in
     number_sets z (codes "N") (decimal n) op at g (with_n n at g) parameter.Distance n_name is (λ x ls. refl) (decimal_number n (omega arith)) (n_set n at g small none)
 
-from_set : (n at : ℕ) → n ≤ MAX_COUNT → with_value (Some parameter.From) (decimal n) (at + 1) nothing_given ≡ Ok (record nothing_given { from = Some n })
-from_set n at small = rw (natural_decimal n MAX_COUNT small count_limit) refl
+from_set : (n at : ℕ) → n ≤ greatest_count → with_value (Some parameter.From) (decimal n) (at + 1) nothing_given ≡ Ok (record nothing_given { from = Some n })
+from_set n at small = rw (natural_decimal n greatest_count small count_limit) refl
 
-from_sets : (z : Text) (n at : ℕ) → n ≤ MAX_COUNT → Sets z operator.Count at (codes "from") (decimal n) nothing_given (record nothing_given { from = Some n })
+from_sets : (z : TextBytes) (n at : ℕ) → n ≤ greatest_count → Sets z operator.Count at (codes "from") (decimal n) nothing_given (record nothing_given { from = Some n })
 from_sets z n at small =
     let low = count_limit in
     number_sets z (codes "from") (decimal n) operator.Count at nothing_given (record nothing_given { from = Some n }) parameter.From from_name refl (λ x ls. refl) (decimal_number n (omega arith)) (from_set n at small)
 
-to_set : (n m at : ℕ) → m ≤ MAX_COUNT → with_value (Some parameter.To) (decimal m) (at + 1) (record nothing_given { from = Some n }) ≡ Ok (record nothing_given { from = Some n; to = Some m })
-to_set n m at small = rw (natural_decimal m MAX_COUNT small count_limit) refl
+to_set : (n m at : ℕ) → m ≤ greatest_count → with_value (Some parameter.To) (decimal m) (at + 1) (record nothing_given { from = Some n }) ≡ Ok (record nothing_given { from = Some n; to = Some m })
+to_set n m at small = rw (natural_decimal m greatest_count small count_limit) refl
 
-to_sets : (z : Text) (n m at : ℕ) → m ≤ MAX_COUNT → Sets z operator.Count at (codes "to") (decimal m) (record nothing_given { from = Some n }) (record nothing_given { from = Some n; to = Some m })
+to_sets : (z : TextBytes) (n m at : ℕ) → m ≤ greatest_count → Sets z operator.Count at (codes "to") (decimal m) (record nothing_given { from = Some n }) (record nothing_given { from = Some n; to = Some m })
 to_sets z n m at small =
     let low = count_limit in
     number_sets z (codes "to") (decimal m) operator.Count at (record nothing_given { from = Some n }) (record nothing_given { from = Some n; to = Some m }) parameter.To to_name refl (λ x ls. refl)
     (decimal_number m (omega arith)) (to_set n m at small)
 
-cb_set : (cb : ℤ) (at : ℕ) → unsigned_abs cb ≤ MAX_BOOST → with_value (Some parameter.Cb) (signed_decimal cb) (at + 1) nothing_given ≡ Ok (record nothing_given { cb = Some cb })
-cb_set cb at small = rw (whole_decimal cb MAX_BOOST small boost_limit) refl
+cb_set : (cb : ℤ) (at : ℕ) → unsigned_abs cb ≤ greatest_boost → with_value (Some parameter.Cb) (signed_decimal cb) (at + 1) nothing_given ≡ Ok (record nothing_given { cb = Some cb })
+cb_set cb at small = rw (whole_decimal cb greatest_boost small boost_limit) refl
 
-cb_sets : (z : Text) (cb : ℤ) (at : ℕ) → unsigned_abs cb ≤ MAX_BOOST → Sets z operator.Xrank at (codes "cb") (signed_decimal cb) nothing_given (record nothing_given { cb = Some cb })
+cb_sets : (z : TextBytes) (cb : ℤ) (at : ℕ) → unsigned_abs cb ≤ greatest_boost → Sets z operator.Xrank at (codes "cb") (signed_decimal cb) nothing_given (record nothing_given { cb = Some cb })
 cb_sets z cb at small =
     let low = boost_limit in
     number_sets z (codes "cb") (signed_decimal cb) operator.Xrank at nothing_given (record nothing_given { cb = Some cb }) parameter.Cb cb_name refl (λ x ls. refl)
@@ -285,31 +286,31 @@ upper_set : (above below : Bool) (at : ℕ) → with_value (Some parameter.Upper
 upper_set above true at = refl
 upper_set above false at = refl
 
-lower_sets : (z : Text) (above : Bool) (at : ℕ) → Sets z operator.Range at (codes "from") (word_value (lower_word above)) nothing_given (record nothing_given { above = Some above })
+lower_sets : (z : TextBytes) (above : Bool) (at : ℕ) → Sets z operator.Range at (codes "from") (word_value (lower_word above)) nothing_given (record nothing_given { above = Some above })
 lower_sets z above at =
     word_sets z (codes "from") (lower_word above) operator.Range at nothing_given (record nothing_given { above = Some above }) parameter.Lower from_name refl (λ x ls. refl) (lower_plain above) (lower_set above at)
 
-upper_sets : (z : Text) (above below : Bool) (at : ℕ) → Sets z operator.Range at (codes "to") (word_value (upper_word below)) (record nothing_given { above = Some above }) (record nothing_given { above = Some above; below = Some below })
+upper_sets : (z : TextBytes) (above below : Bool) (at : ℕ) → Sets z operator.Range at (codes "to") (word_value (upper_word below)) (record nothing_given { above = Some above }) (record nothing_given { above = Some above; below = Some below })
 upper_sets z above below at =
     word_sets z (codes "to") (upper_word below) operator.Range at (record nothing_given { above = Some above }) (record nothing_given { above = Some above; below = Some below }) parameter.Upper to_name refl (λ x ls. refl)
     (upper_plain below) (upper_set above below at)
 
-pub mode_sets : (z : Text) (m : Mode) (word : Text) (at : ℕ) → IsPlain word → with_value (Some parameter.ModeName) word (at + 1) nothing_given ≡ Ok (record nothing_given { mode = Some m })
+pub mode_sets : (z : TextBytes) (m : Mode) (word : TextBytes) (at : ℕ) → IsPlain word → with_value (Some parameter.ModeName) word (at + 1) nothing_given ≡ Ok (record nothing_given { mode = Some m })
     → Sets z operator.Str at (codes "mode") (word_value word) nothing_given (record nothing_given { mode = Some m })
 mode_sets z m word at plain set =
     word_sets z (codes "mode") word operator.Str at nothing_given (record nothing_given { mode = Some m }) parameter.ModeName mode_name refl (λ x ls. refl) plain set
 
 -- From a place on stand an operator's parameters and `)`, and these lexemes behind them.
-pub record ReadsParameters (k : ℕ) (z : Text) (o : Op) (at : ℕ) (xs : List FLexeme) : Type 0 where
+pub record ReadsParameters (k : ℕ) (z : TextBytes) (o : Op) (at : ℕ) (xs : List FLexeme) : Type 0 where
   pub given : Given
   pub closes : Closes k z (operator_in o) at nothing_given given xs
   pub makes : (close : ℕ) → operation (operator_in o) given close ≡ Ok o
 
-module _ (k : ℕ) (z r : Text) (at : ℕ) (xs : List FLexeme) where
+module _ (k : ℕ) (z r : TextBytes) (at : ℕ) (xs : List FLexeme) where
   without : (o : Op) → drop at z ≡ 41 ∷ r → Lexes z (at + 0 + 1) xs → ((close : ℕ) → operation (operator_in o) nothing_given close ≡ Ok o) → ReadsParameters k z o at xs
   without o e more makes = record { given = nothing_given; closes = no_parameter k z r (operator_in o) at nothing_given xs e more; makes = makes }
 
-  with_mode : (m : Mode) (n : ℕ) (word : Text) → IsPlain word → with_value (Some parameter.ModeName) word (at + 1) nothing_given ≡ Ok (record nothing_given { mode = Some m })
+  with_mode : (m : Mode) (n : ℕ) (word : TextBytes) → IsPlain word → with_value (Some parameter.ModeName) word (at + 1) nothing_given ≡ Ok (record nothing_given { mode = Some m })
       → drop at z ≡ assigned (codes "mode") (word_value word) ++ 41 ∷ r → Lexes z (at + length (assigned (codes "mode") (word_value word)) + 1) xs
       → ((close : ℕ) → operation operator.Str (record nothing_given { mode = Some m }) close ≡ Ok (op.Str m n)) → ReadsParameters k z (op.Str m n) at xs
   with_mode m n word plain set e more makes = record {
@@ -318,7 +319,7 @@ module _ (k : ℕ) (z r : Text) (at : ℕ) (xs : List FLexeme) where
     makes = makes;
   }
 
-  with_distance : (m : Mode) (n : ℕ) (word : Text) → IsPlain word → with_value (Some parameter.ModeName) word (at + 1) nothing_given ≡ Ok (record nothing_given { mode = Some m }) → n ≤ MAX_NEAR
+  with_distance : (m : Mode) (n : ℕ) (word : TextBytes) → IsPlain word → with_value (Some parameter.ModeName) word (at + 1) nothing_given ≡ Ok (record nothing_given { mode = Some m }) → n ≤ greatest_distance
       → drop at z ≡ assigned (codes "mode") (word_value word) ++ distance_text n ++ 41 ∷ r → Lexes z (at + length (assigned (codes "mode") (word_value word) ++ distance_text n) + 1) xs
       → ((place close : ℕ) → operation operator.Str (with_n n place (record nothing_given { mode = Some m })) close ≡ Ok (op.Str m n)) → ReadsParameters k z (op.Str m n) at xs
   with_distance m n word plain set small e more makes =

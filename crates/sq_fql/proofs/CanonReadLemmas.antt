@@ -7,7 +7,7 @@ use Rattle.sq_tokens.specs.Pattern.{first_bad_star}
 use Rattle.sq_lex.specs.declared.class.Class.TheVariants as class
 use Rattle.sq_lex.specs.declared.fql_lexeme.FKind.TheVariants as kind
 use Rattle.sq_lex.specs.declared.fql_lexeme.FLexeme.{FLexeme}
-use Rattle.sq_lex.specs.Bytes.{Text, is_in}
+use Rattle.sq_lex.specs.Bytes.{TextBytes, is_in}
 use Rattle.sq_lex.specs.Fql.{lexeme}
 use Rattle.sq_fql.specs.declared.look.Role.TheVariants as role
 use Rattle.sq_fql.specs.Canon.{are_digits, is_number, is_bare, quoted, literal_text}
@@ -17,7 +17,7 @@ use Rattle.sq_fql.proofs.CanonLexLemmas.{Lexes, stops, part_there, name_lexes, d
 use Rattle.sq_fql.proofs.CanonStringLemmas.{string_lexes, string_content}
 
 -- behind an operand: nothing, a comma or `)`
-pub record IsEnd (r : Text) (xs : List FLexeme) : Type 0 where
+pub record IsEnd (r : TextBytes) (xs : List FLexeme) : Type 0 where
   pub term : stops (is_in class.Term) r ≡ true
   pub parameter : stops (is_in class.Parameter) r ≡ true
   pub role : next_role xs ≡ role.Literal
@@ -25,7 +25,7 @@ pub record IsEnd (r : Text) (xs : List FLexeme) : Type 0 where
 -- ---- literals
 
 -- A literal stands at a place, and these lexemes behind it.
-pub record ReadsLeaf (z : Text) (at : ℕ) (text : Text) (xs : List FLexeme) : Type 0 where
+pub record ReadsLeaf (z : TextBytes) (at : ℕ) (text : TextBytes) (xs : List FLexeme) : Type 0 where
   pub first : FLexeme
   pub lexed : Lexes z at (first ∷ xs)
   pub begins : wanted z (first ∷ xs) ≡ Ok first
@@ -33,7 +33,7 @@ pub record ReadsLeaf (z : Text) (at : ℕ) (text : Text) (xs : List FLexeme) : T
   pub read : literal z first ≡ Ok (piece at text)
   pub leaf : leaf z first ≡ Ok (piece at text)
 
-minus_by : (t : Bool) (z : Text) (b : ℕ) (w r : Text) (at : ℕ) (xs : List FLexeme) → (b == 45) ≡ t → (if t then are_digits w else are_digits (b ∷ w)) ≡ true → drop at z ≡ b ∷ w ++ r → stops (is_in class.Parameter) r ≡ true
+minus_by : (t : Bool) (z : TextBytes) (b : ℕ) (w r : TextBytes) (at : ℕ) (xs : List FLexeme) → (b == 45) ≡ t → (if t then are_digits w else are_digits (b ∷ w)) ≡ true → drop at z ≡ b ∷ w ++ r → stops (is_in class.Parameter) r ≡ true
     → Lexes z (at + length (b ∷ w)) xs → Lexes z at (lexeme kind.Word at (at + length (b ∷ w)) ∷ xs)
 minus_by true z b [] r at xs is number e stop more = cc
 minus_by true z b (d ∷ w) r at xs is number e stop more =
@@ -42,7 +42,7 @@ minus_by true z b (d ∷ w) r at xs is number e stop more =
     minus_lexes z (d ∷ w) r at xs number there stop more
 minus_by false z b w r at xs is number e stop more = digits_lex z b w r at xs number e stop more
 
-pub number_lexes : (z text r : Text) (at : ℕ) (xs : List FLexeme) → is_number text ≡ true → drop at z ≡ text ++ r → stops (is_in class.Parameter) r ≡ true
+pub number_lexes : (z text r : TextBytes) (at : ℕ) (xs : List FLexeme) → is_number text ≡ true → drop at z ≡ text ++ r → stops (is_in class.Parameter) r ≡ true
     → Lexes z (at + length text) xs → Lexes z at (lexeme kind.Word at (at + length text) ∷ xs)
 number_lexes z [] r at xs number e stop more = cc
 number_lexes z (b ∷ w) r at xs number e stop more = minus_by (b == 45) z b w r at xs refl number e stop more
@@ -54,7 +54,7 @@ most_name : IsName (codes "max")
 most_name = record { letter = refl; word = refl }
 
 -- what is written without quotes is one word
-bare_by : (a b c : Bool) (z text r : Text) (at : ℕ) (xs : List FLexeme) → is_number text ≡ a → bytes_eq text (codes "min") ≡ b → bytes_eq text (codes "max") ≡ c → (a || b || c) ≡ true
+bare_by : (a b c : Bool) (z text r : TextBytes) (at : ℕ) (xs : List FLexeme) → is_number text ≡ a → bytes_eq text (codes "min") ≡ b → bytes_eq text (codes "max") ≡ c → (a || b || c) ≡ true
     → drop at z ≡ text ++ r → IsEnd r xs → Lexes z (at + length text) xs → Lexes z at (lexeme kind.Word at (at + length text) ∷ xs)
 bare_by true b c z text r at xs f g h some e end more = number_lexes z text r at xs f e end.parameter more
 bare_by false true c z text r at xs f g h some e end more =
@@ -65,14 +65,14 @@ bare_by false false true z text r at xs f g h some e end more =
     name_lexes z text r at xs (subst IsName (sym same) most_name) e end.term more
 bare_by false false false z text r at xs f g h some e end more = cc
 
-star_by : (t : Bool) (text : Text) → bytes_eq text (codes "*") ≡ t → is_bare text ≡ true → t ≡ false
+star_by : (t : Bool) (text : TextBytes) → bytes_eq text (codes "*") ≡ t → is_bare text ≡ true → t ≡ false
 star_by true text is bare = let bad : is_bare (codes "*") ≡ true = subst (λ w. is_bare w ≡ true) ((bytes_eq-Decides text (codes "*")).0 is) bare in absurd cc
 star_by false text is bare = refl
 
-not_star : (text : Text) → is_bare text ≡ true → bytes_eq text (codes "*") ≡ false
+not_star : (text : TextBytes) → is_bare text ≡ true → bytes_eq text (codes "*") ≡ false
 not_star text bare = star_by (bytes_eq text (codes "*")) text refl bare
 
-module _ (z r text : Text) (at : ℕ) (xs : List FLexeme) (end : IsEnd r xs) (star : first_bad_star text ≡ None) where
+module _ (z r text : TextBytes) (at : ℕ) (xs : List FLexeme) (end : IsEnd r xs) (star : first_bad_star text ≡ None) where
   module _ (utf8 : IsUtf8 text) (e : drop at z ≡ quoted text ++ r) where
     string_read : literal z (lexeme kind.Str at (at + length (quoted text))) ≡ Ok (piece at text)
     unfolding literal

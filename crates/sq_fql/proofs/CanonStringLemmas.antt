@@ -6,7 +6,7 @@ use Rattle.std.specs.List.{list_all}
 use lib.Utf8.{scalar, scalars}
 use Rattle.sq_lex.specs.declared.fql_lexeme.FKind.TheVariants as kind
 use Rattle.sq_lex.specs.declared.fql_lexeme.FLexeme.{FLexeme}
-use Rattle.sq_lex.specs.Bytes.{Text}
+use Rattle.sq_lex.specs.Bytes.{TextBytes}
 use Rattle.sq_lex.specs.Fql.{lexeme, closing, string_at, lexeme_at}
 use Rattle.sq_fql.specs.Canon.{escaped, quoted}
 use Rattle.sq_fql.specs.Read.{unescaped, content}
@@ -17,7 +17,7 @@ use Rattle.sq_fql.proofs.CanonLexLemmas.{Lexes, lexes_on, rest_behind_one, byte_
 abbrev is_high : ℕ → Bool
 is_high b = nat_le 128 b
 
-pass_high : (at : ℕ) (bs rest : Text) → list_all is_high bs ≡ true → closing false at (bs ++ rest) ≡ closing false (at + length bs) rest
+pass_high : (at : ℕ) (bs rest : TextBytes) → list_all is_high bs ≡ true → closing false at (bs ++ rest) ≡ closing false (at + length bs) rest
 pass_high at [] rest all = let none : at ≡ at + 0 = omega arith in ap (λ n. closing false n rest) none
 pass_high at (b ∷ bs) rest all =
     let high = both_left (is_high b) (list_all is_high bs) all in
@@ -26,10 +26,10 @@ pass_high at (b ∷ bs) rest all =
     let place : at + 1 + length bs ≡ at + length (b ∷ bs) = omega arith in
     rw (quote, slash) (pass_high (at + 1) bs rest (both_right (is_high b) (list_all is_high bs) all) ∙ ap (λ n. closing false n rest) place)
 
-one_high : (x : ℕ) (xs : Text) → 128 ≤ x → list_all is_high xs ≡ true → list_all is_high (x ∷ xs) ≡ true
+one_high : (x : ℕ) (xs : TextBytes) → 128 ≤ x → list_all is_high xs ≡ true → list_all is_high (x ∷ xs) ≡ true
 one_high x xs high others = let test : nat_le 128 x ≡ true = grind (arith, nat_tests) in rw (test, others) refl
 
-high_by : (s t : Bool) (a b c : Text) → list_all is_high a ≡ true → list_all is_high b ≡ true → list_all is_high c ≡ true → list_all is_high (cond s a (cond t b c)) ≡ true
+high_by : (s t : Bool) (a b c : TextBytes) → list_all is_high a ≡ true → list_all is_high b ≡ true → list_all is_high c ≡ true → list_all is_high (cond s a (cond t b c)) ≡ true
 high_by true t a b c f g h = f
 high_by false true a b c f g h = g
 high_by false false a b c f g h = h
@@ -54,22 +54,22 @@ encode_high c high =
     (one_high (240 + c / 262144) ((128 + c / 4096 % 64) ∷ (128 + c / 64 % 64) ∷ (128 + c % 64) ∷ []) d
     (one_high (128 + c / 4096 % 64) ((128 + c / 64 % 64) ∷ (128 + c % 64) ∷ []) upper (high_two (128 + c / 64 % 64) (128 + c % 64) middle last))))
 
-pass_quote : (at : ℕ) (rest : Text) → closing false at (escaped 34 ++ rest) ≡ closing false (at + length (escaped 34)) rest
+pass_quote : (at : ℕ) (rest : TextBytes) → closing false at (escaped 34 ++ rest) ≡ closing false (at + length (escaped 34)) rest
 unfolding lib.Utf8.encode
 pass_quote at rest = let place : at + 1 + 1 ≡ at + 2 = omega arith in ap (λ n. closing false n rest) place
 
-pass_slash : (at : ℕ) (rest : Text) → closing false at (escaped 92 ++ rest) ≡ closing false (at + length (escaped 92)) rest
+pass_slash : (at : ℕ) (rest : TextBytes) → closing false at (escaped 92 ++ rest) ≡ closing false (at + length (escaped 92)) rest
 unfolding lib.Utf8.encode
 pass_slash at rest = let place : at + 1 + 1 ≡ at + 2 = omega arith in ap (λ n. closing false n rest) place
 
-pass_low : (c at : ℕ) (rest : Text) → c < 128 → (c == 34) ≡ false → (c == 92) ≡ false → closing false at (encode_utf8 c ++ rest) ≡ closing false (at + length (encode_utf8 c)) rest
+pass_low : (c at : ℕ) (rest : TextBytes) → c < 128 → (c == 34) ≡ false → (c == 92) ≡ false → closing false at (encode_utf8 c ++ rest) ≡ closing false (at + length (encode_utf8 c)) rest
 pass_low c at rest low quote slash = rw (encode_ascii c low) (rw (quote, slash) refl)
 
-pass_by : (t : Bool) (c at : ℕ) (rest : Text) → nat_lt c 128 ≡ t → (c == 34) ≡ false → (c == 92) ≡ false → closing false at (encode_utf8 c ++ rest) ≡ closing false (at + length (encode_utf8 c)) rest
+pass_by : (t : Bool) (c at : ℕ) (rest : TextBytes) → nat_lt c 128 ≡ t → (c == 34) ≡ false → (c == 92) ≡ false → closing false at (encode_utf8 c ++ rest) ≡ closing false (at + length (encode_utf8 c)) rest
 pass_by true c at rest is quote slash = pass_low c at rest (grind (arith, nat_tests, is)) quote slash
 pass_by false c at rest is quote slash = pass_high at (encode_utf8 c) rest (encode_high c (grind (arith, nat_tests, is)))
 
-pass_escaped : (c at : ℕ) (rest : Text) → closing false at (escaped c ++ rest) ≡ closing false (at + length (escaped c)) rest
+pass_escaped : (c at : ℕ) (rest : TextBytes) → closing false at (escaped c ++ rest) ≡ closing false (at + length (escaped c)) rest
 pass_escaped c at rest = elim (eqb_tells c 34) [
   | inl e ↦ subst (λ d. closing false at (escaped d ++ rest) ≡ closing false (at + length (escaped d)) rest) (sym e.1) (pass_quote at rest)
   | inr e ↦ elim (eqb_tells c 92) [
@@ -81,7 +81,7 @@ pass_escaped c at rest = elim (eqb_tells c 34) [
   ]
 ]
 
-closed : (cs : List ℕ) (at : ℕ) (rest : Text) → closing false at (flat_map escaped cs ++ 34 ∷ rest) ≡ Some (at + length (flat_map escaped cs))
+closed : (cs : List ℕ) (at : ℕ) (rest : TextBytes) → closing false at (flat_map escaped cs ++ 34 ∷ rest) ≡ Some (at + length (flat_map escaped cs))
 closed [] at rest = let none : at ≡ at + 0 = omega arith in ap (λ n. Some n) none
 closed (c ∷ cs) at rest =
     let place : at + length (escaped c) + length (flat_map escaped cs) ≡ at + length (escaped c ++ flat_map escaped cs) = omega (arith, length-append (escaped c) (flat_map escaped cs)) in
@@ -90,8 +90,8 @@ closed (c ∷ cs) at rest =
 
 -- ---- the lexeme of a string
 
-module _ (z r text : Text) (at : ℕ) (e : drop at z ≡ quoted text ++ r) where
-  inside : Text
+module _ (z r text : TextBytes) (at : ℕ) (e : drop at z ≡ quoted text ++ r) where
+  inside : TextBytes
   inside = flat_map escaped (chars text)
 
   split : drop at z ≡ 34 ∷ (flat_map escaped (chars text) ++ 34 ∷ r)
@@ -154,7 +154,7 @@ read_back : (cs : List ℕ) → unescaped false (flat_map marked cs) ≡ cs
 read_back [] = refl
 read_back (c ∷ cs) = unescape_by (c == 34 || c == 92) c (flat_map marked cs) refl ∙ ap (λ l. c ∷ l) (read_back cs)
 
-pub string_content : (z r text : Text) (at : ℕ) → drop at z ≡ quoted text ++ r → IsUtf8 text → content z (lexeme kind.Str at (at + length (quoted text))) ≡ text
+pub string_content : (z r text : TextBytes) (at : ℕ) → drop at z ≡ quoted text ++ r → IsUtf8 text → content z (lexeme kind.Str at (at + length (quoted text))) ≡ text
 string_content z r text at e utf8 =
     let letters : chars (flat_map escaped (chars text)) ≡ flat_map marked (chars text)
     = ap chars (spelled (chars text)) ∙ chars-encodes (flat_map marked (chars text)) (all_scalar (chars text) (scalars-chars text utf8)) in

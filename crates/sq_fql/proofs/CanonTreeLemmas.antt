@@ -5,7 +5,7 @@ use Rattle.std.specs.Char.{is_ascii_alphabetic}
 use Rattle.sq_lex.specs.declared.class.Class.TheVariants as class
 use Rattle.sq_lex.specs.declared.fql_lexeme.FKind.TheVariants as kind
 use Rattle.sq_lex.specs.declared.fql_lexeme.FLexeme.{FLexeme}
-use Rattle.sq_lex.specs.Bytes.{Text}
+use Rattle.sq_lex.specs.Bytes.{TextBytes}
 use Rattle.sq_lex.specs.Fql.{lexeme}
 use Rattle.sq_base.specs.Outcome.{Outcome, ◌>>=◌}
 use Rattle.sq_fql.specs.declared.raw.FRaw.{FRaw, All, Literal, Scope', Row_of-FRaw, end_of-FRaw, more_of-FRaw}
@@ -28,7 +28,7 @@ use Rattle.sq_fql.proofs.CanonLexLemmas.{Lexes, rest_behind, rest_behind_one, by
 use Rattle.sq_fql.proofs.CanonReadLemmas.{IsEnd, ReadsLeaf}
 
 -- A tree stands at a place, and these lexemes behind it.
-pub record ReadsTree (k : ℕ) (z : Text) (at : ℕ) (t : FRaw) (xs : List FLexeme) : Type 0 where
+pub record ReadsTree (k : ℕ) (z : TextBytes) (at : ℕ) (t : FRaw) (xs : List FLexeme) : Type 0 where
   pub first : FLexeme
   pub others : List FLexeme
   pub found : FRaw
@@ -42,7 +42,7 @@ pub record ReadsTree (k : ℕ) (z : Text) (at : ℕ) (t : FRaw) (xs : List FLexe
 
 -- ---- leaves
 
-module _ (k : ℕ) (z : Text) (at old : ℕ) (text : Text) (xs : List FLexeme) (l : ReadsLeaf z at text xs) where
+module _ (k : ℕ) (z : TextBytes) (at old : ℕ) (text : TextBytes) (xs : List FLexeme) (l : ReadsLeaf z at text xs) where
   leaf_expression : expression k z (l.first ∷ xs) ≡ Ok (piece at text, xs)
   unfolding expression_over
   leaf_expression = rw (l.begins, l.role, l.leaf) refl
@@ -67,7 +67,7 @@ module _ (k : ℕ) (z : Text) (at old : ℕ) (text : Text) (xs : List FLexeme) (
     alone = λ literal. (leaf_alone, refl);
   }
 
-module _ (k : ℕ) (z r : Text) (at old : ℕ) (xs : List FLexeme) (e : drop at z ≡ codes "*" ++ r) (end : IsEnd r xs) (more : Lexes z (at + 1) xs) where
+module _ (k : ℕ) (z r : TextBytes) (at old : ℕ) (xs : List FLexeme) (e : drop at z ≡ codes "*" ++ r) (end : IsEnd r xs) (more : Lexes z (at + 1) xs) where
   star : FLexeme
   star = lexeme kind.Word at (at + 1)
 
@@ -98,7 +98,7 @@ unplaced_row : {m : _} (row : Row_of-FRaw m) → unplaced_each row ≡ map unpla
 unplaced_row end_of-FRaw = refl
 unplaced_row (more_of-FRaw t rest) = ap (λ l. unplaced t ∷ l) (unplaced_row rest)
 
-pub unplaced_scope : (at : ℕ) (name : Text) (t : FRaw) → unplaced (tree.Scope at name t) ≡ tree.Scope 0 name (unplaced t)
+pub unplaced_scope : (at : ℕ) (name : TextBytes) (t : FRaw) → unplaced (tree.Scope at name t) ≡ tree.Scope 0 name (unplaced t)
 unfolding shape-the_row-FRaw-0 hidden-the_row-FRaw-0 denote.Hole.Carrier.hidden
 unplaced_scope at name t = refl
 
@@ -108,9 +108,9 @@ unplaced_apply at o ts =
 
 -- ---- scopes
 
-module _ (k : ℕ) (z name : Text) (at old : ℕ) (t : FRaw) (xs : List FLexeme) (named : IsName name) where
-  module _ (r : Text) (e : drop at z ≡ name ++ 58 ∷ r) (i : ReadsTree k z (at + length name + 1) t xs) where
-    scope_letter : (w : Text) → drop at z ≡ w ++ 58 ∷ r → is_ascii_alphabetic (slice_index w 0) ≡ true → is_ascii_alphabetic (slice_index z at) ≡ true
+module _ (k : ℕ) (z name : TextBytes) (at old : ℕ) (t : FRaw) (xs : List FLexeme) (named : IsName name) where
+  module _ (r : TextBytes) (e : drop at z ≡ name ++ 58 ∷ r) (i : ReadsTree k z (at + length name + 1) t xs) where
+    scope_letter : (w : TextBytes) → drop at z ≡ w ++ 58 ∷ r → is_ascii_alphabetic (slice_index w 0) ≡ true → is_ascii_alphabetic (slice_index z at) ≡ true
     scope_letter [] there letter = cc
     scope_letter (b ∷ w) there letter = rw (byte_there z (w ++ 58 ∷ r) b at there) letter
 
@@ -139,11 +139,11 @@ abbrev pub found_so : List FRaw → Given → Found
 found_so operands given = record { operands = operands; given = given }
 
 -- what follows an entry
-abbrev pub continues : Reader → ℕ → Text → Operator → Found → List FLexeme → Outcome Listed
+abbrev pub continues : Reader → ℕ → TextBytes → Operator → Found → List FLexeme → Outcome Listed
 continues inner turns z op f ys = separator z ys >>= λ end. ended_or end f (behind ys) (entries inner turns z op f (behind ys))
 
 -- From a place on stand parameters and `)`, each parameter behind a comma, and these lexemes behind them.
-pub record Closes (k : ℕ) (z : Text) (op : Operator) (at : ℕ) (before after : Given) (xs : List FLexeme) : Type 0 where
+pub record Closes (k : ℕ) (z : TextBytes) (op : Operator) (at : ℕ) (before after : Given) (xs : List FLexeme) : Type 0 where
   pub lexemes : List FLexeme
   pub close : ℕ
   pub lexed : Lexes z at lexemes
@@ -152,7 +152,7 @@ pub record Closes (k : ℕ) (z : Text) (op : Operator) (at : ℕ) (before after 
   pub read : (operands : List FRaw) (turns : ℕ) → length lexemes ≤ turns → continues (expression k z) turns z op (found_so operands before) lexemes ≡ Ok (found_so operands after, close, xs)
 
 -- From a place on stand operands, each behind a comma, and then parameters and `)`.
-pub record ReadsMore {m : _} (k : ℕ) (z : Text) (op : Operator) (at : ℕ) (row : Row_of-FRaw m) (after : Given) (xs : List FLexeme) : Type 0 where
+pub record ReadsMore {m : _} (k : ℕ) (z : TextBytes) (op : Operator) (at : ℕ) (row : Row_of-FRaw m) (after : Given) (xs : List FLexeme) : Type 0 where
   pub lexemes : List FLexeme
   pub close : ℕ
   pub operands : List FRaw
@@ -164,7 +164,7 @@ pub record ReadsMore {m : _} (k : ℕ) (z : Text) (op : Operator) (at : ℕ) (ro
       → continues (expression k z) turns z op (found_so before nothing_given) lexemes ≡ Ok (found_so (before ++ operands) after, close, xs)
 
 -- A list stands at a place.
-pub record ReadsList {m : _} (k : ℕ) (z : Text) (op : Operator) (at : ℕ) (row : Row_of-FRaw m) (after : Given) (xs : List FLexeme) : Type 0 where
+pub record ReadsList {m : _} (k : ℕ) (z : TextBytes) (op : Operator) (at : ℕ) (row : Row_of-FRaw m) (after : Given) (xs : List FLexeme) : Type 0 where
   pub first : FLexeme
   pub others : List FLexeme
   pub close : ℕ
@@ -175,13 +175,13 @@ pub record ReadsList {m : _} (k : ℕ) (z : Text) (op : Operator) (at : ℕ) (ro
   pub read : IfSome (operands_of op).most (λ most. count row ≤ most)
       → entries (expression k z) (suc (length (first ∷ others))) z op nothing (first ∷ others) ≡ Ok (found_so operands after, close, xs)
 
-closed_end : (z r : Text) (at : ℕ) (xs : List FLexeme) → drop at z ≡ 41 ∷ r → IsEnd (drop at z) (lexeme kind.RightParen at (at + 1) ∷ xs)
+closed_end : (z r : TextBytes) (at : ℕ) (xs : List FLexeme) → drop at z ≡ 41 ∷ r → IsEnd (drop at z) (lexeme kind.RightParen at (at + 1) ∷ xs)
 closed_end z r at xs e = subst (λ l. IsEnd l (lexeme kind.RightParen at (at + 1) ∷ xs)) (sym e) (record { term = refl; parameter = refl; role = refl })
 
-comma_end : (z r : Text) (at : ℕ) (xs : List FLexeme) → drop at z ≡ 44 ∷ r → IsEnd (drop at z) (lexeme kind.Comma at (at + 1) ∷ xs)
+comma_end : (z r : TextBytes) (at : ℕ) (xs : List FLexeme) → drop at z ≡ 44 ∷ r → IsEnd (drop at z) (lexeme kind.Comma at (at + 1) ∷ xs)
 comma_end z r at xs e = subst (λ l. IsEnd l (lexeme kind.Comma at (at + 1) ∷ xs)) (sym e) (record { term = refl; parameter = refl; role = refl })
 
-pub closes_end : (k : ℕ) (z r : Text) (op : Operator) (at : ℕ) (g : Given) (xs : List FLexeme) → drop at z ≡ 41 ∷ r → Lexes z (at + 1) xs → Closes k z op at g g xs
+pub closes_end : (k : ℕ) (z r : TextBytes) (op : Operator) (at : ℕ) (g : Given) (xs : List FLexeme) → drop at z ≡ 41 ∷ r → Lexes z (at + 1) xs → Closes k z op at g g xs
 closes_end k z r op at g xs e more = record {
   lexemes = lexeme kind.RightParen at (at + 1) ∷ xs;
   close = at;
@@ -198,13 +198,13 @@ room_left (Some m) before count room = grind (arith, nat_tests)
 room_on : (most : Option ℕ) (a b : ℕ) → a ≡ b → IfSome most (λ m. a ≤ m) → IfSome most (λ m. b ≤ m)
 room_on most a b same room = subst (λ n. IfSome most (λ m. n ≤ m)) same room
 
-entry_other : (inner : Reader) (z : Text) (op : Operator) (f : Found) (r : Role) (x : FLexeme) (xs : List FLexeme) → (r ≡ role.Parameter → ⊥) → entry_by inner z op f r x xs ≡ with_next_operand inner z op f r x xs
+entry_other : (inner : Reader) (z : TextBytes) (op : Operator) (f : Found) (r : Role) (x : FLexeme) (xs : List FLexeme) → (r ≡ role.Parameter → ⊥) → entry_by inner z op f r x xs ≡ with_next_operand inner z op f r x xs
 entry_other inner z op f role.Operator x xs other = refl
 entry_other inner z op f role.Scope x xs other = refl
 entry_other inner z op f role.Parameter x xs other = absurd (other refl)
 entry_other inner z op f role.Literal x xs other = refl
 
-module _ (k : ℕ) (z : Text) (op : Operator) (at : ℕ) (t : FRaw) (ls : List FLexeme) (i : ReadsTree k z at t ls) (literal_ok : (operands_of op).literals ≡ true → is_literal t ≡ true) where
+module _ (k : ℕ) (z : TextBytes) (op : Operator) (at : ℕ) (t : FRaw) (ls : List FLexeme) (i : ReadsTree k z at t ls) (literal_ok : (operands_of op).literals ≡ true → is_literal t ≡ true) where
   operand_by : (b : Bool) → (operands_of op).literals ≡ b → operand (expression k z) z op (role_of i.first i.others) i.first (i.first ∷ i.others) ≡ Ok (i.found, ls)
   unfolding operand
   operand_by true is = let a = i.alone (literal_ok is) in rw (is, a.0) (ap (λ l. Ok (i.found, l)) a.1)
@@ -215,7 +215,7 @@ module _ (k : ℕ) (z : Text) (op : Operator) (at : ℕ) (t : FRaw) (ls : List F
   entry_reads operands g room =
       rw (i.begins, entry_other (expression k z) z op (found_so operands g) (role_of i.first i.others) i.first (i.first ∷ i.others) i.role, room, operand_by (operands_of op).literals refl) refl
 
-module _ {m : _} (k : ℕ) (z r : Text) (op : Operator) (at to : ℕ) (t : FRaw) (rest : Row_of-FRaw m) (after : Given) (xs : List FLexeme)
+module _ {m : _} (k : ℕ) (z r : TextBytes) (op : Operator) (at to : ℕ) (t : FRaw) (rest : Row_of-FRaw m) (after : Given) (xs : List FLexeme)
     (c : ReadsMore k z op to rest after xs) (literal_ok : (operands_of op).literals ≡ true → is_literal t ≡ true) where
   both_same : (i : ReadsTree k z at t c.lexemes) → map unplaced (i.found ∷ c.operands) ≡ unplaced t ∷ unplaced_each rest
   both_same i = ap (λ x. x ∷ map unplaced c.operands) i.same ∙ ap (λ l. unplaced t ∷ l) c.same
@@ -256,7 +256,7 @@ module _ {m : _} (k : ℕ) (z r : Text) (op : Operator) (at to : ℕ) (t : FRaw)
       (c.read (before ++ i.found ∷ []) turns (omega (arith, i.shorter)) room_next
       ∙ ap (λ l. Ok (found_so l after, c.close, xs)) (append_assoc before (i.found ∷ []) c.operands))
 
-pub more_end : (k : ℕ) (z : Text) (op : Operator) (at : ℕ) (after : Given) (xs : List FLexeme) → Closes k z op at nothing_given after xs → ReadsMore k z op at end_of-FRaw after xs
+pub more_end : (k : ℕ) (z : TextBytes) (op : Operator) (at : ℕ) (after : Given) (xs : List FLexeme) → Closes k z op at nothing_given after xs → ReadsMore k z op at end_of-FRaw after xs
 more_end k z op at after xs c = record {
   lexemes = c.lexemes;
   close = c.close;
@@ -268,7 +268,7 @@ more_end k z op at after xs c = record {
   read = λ before turns enough room. c.read before turns enough ∙ ap (λ l. Ok (found_so l after, c.close, xs)) (sym (append-nil before));
 }
 
-pub more_on : {m : _} (k : ℕ) (z r : Text) (op : Operator) (at to : ℕ) (t : FRaw) (rest : Row_of-FRaw m) (after : Given) (xs : List FLexeme)
+pub more_on : {m : _} (k : ℕ) (z r : TextBytes) (op : Operator) (at to : ℕ) (t : FRaw) (rest : Row_of-FRaw m) (after : Given) (xs : List FLexeme)
     (c : ReadsMore k z op to rest after xs) → ((operands_of op).literals ≡ true → is_literal t ≡ true) → drop at z ≡ 44 ∷ r → ReadsTree k z (at + 1) t c.lexemes
     → ReadsMore k z op at (more_of-FRaw t rest) after xs
 more_on k z r op at to t rest after xs c literal_ok e i = record {
@@ -284,7 +284,7 @@ more_on k z r op at to t rest after xs c literal_ok e i = record {
 
 -- ---- parameters
 
-module _ (k : ℕ) (z r name : Text) (op : Operator) (at to : ℕ) (before now after : Given) (xs : List FLexeme) (v : FLexeme) (c : Closes k z op to now after xs)
+module _ (k : ℕ) (z r name : TextBytes) (op : Operator) (at to : ℕ) (before now after : Given) (xs : List FLexeme) (v : FLexeme) (c : Closes k z op to now after xs)
     (e : drop at z ≡ 44 ∷ (name ++ 61 ∷ r)) (named : IsName name) where
   parameter_name : drop (at + 1) z ≡ name ++ 61 ∷ r
   parameter_name = rest_behind_one z (name ++ 61 ∷ r) 44 at e
@@ -324,7 +324,7 @@ length_each : {m : _} (row : Row_of-FRaw m) → length (unplaced_each row) ≡ c
 length_each end_of-FRaw = refl
 length_each (more_of-FRaw t rest) = ap suc (length_each rest)
 
-module _ {m : _} (k : ℕ) (z r : Text) (at old : ℕ) (o : Op) (row : Row_of-FRaw m) (g : Given) (xs : List FLexeme)
+module _ {m : _} (k : ℕ) (z r : TextBytes) (at old : ℕ) (o : Op) (row : Row_of-FRaw m) (g : Given) (xs : List FLexeme)
     (e : drop at z ≡ operator_word o ++ 40 ∷ r) (named : IsName (operator_word o)) (is : operator_of (operator_word o) ≡ Some (operator_in o)) where
   module _ (l : ReadsList k z (operator_in o) (at + length (operator_word o) + 1) row g xs) (least : (operands_of (operator_in o)).least ≤ count row)
       (most : IfSome (operands_of (operator_in o)).most (λ most. count row ≤ most)) (makes : (close : ℕ) → operation (operator_in o) g close ≡ Ok o) where

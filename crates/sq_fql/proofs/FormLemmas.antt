@@ -1,7 +1,7 @@
 -- Well-formed trees by the plain lists of their operands.
 use Rattle.std.proofs.Common.{◌≡◌, ℕ, suc, ◌+◌, ◌≤◌, true, List, [], ◌∷◌, ◌++◌, length, refl, sym, subst, ap, ◌∙◌, IfSome, arith}
 use Rattle.std.specs.List.{AllByRecursion}
-use Rattle.sq_lex.specs.Bytes.{Text}
+use Rattle.sq_lex.specs.Bytes.{TextBytes}
 use Rattle.sq_fql.specs.declared.raw.Op.{Op}
 use Rattle.sq_fql.specs.declared.raw.Op.TheVariants as op
 use Rattle.sq_fql.specs.declared.raw.FRaw.{FRaw, Row_of-FRaw, end_of-FRaw, more_of-FRaw, items-the_row-FRaw, items_hidden-the_row-FRaw-1}
@@ -73,7 +73,7 @@ module _ (ts : List FRaw) where
   pub weight_apply : (at : ℕ) (o : Op) → weight (tree.Apply at o ts) ≡ is_xrank o + weights ts
   weight_apply at o = let h = weight_list in omega (arith, h)
 
-module _ (at : ℕ) (name : Text) (t : FRaw) where
+module _ (at : ℕ) (name : TextBytes) (t : FRaw) where
   pub form_scope : IsName name → HasForm t → HasForm (tree.Scope at name t)
   unfolding hidden-the_row-FRaw-0 denote.Hole.Carrier.hidden
   form_scope is form = (is, (form, tt))

@@ -6,9 +6,10 @@ use Rattle.std.specs.List.{AllByRecursion}
 use Rattle.std.specs.Option.{option_map}
 use Rattle.std.specs.Char.{is_ascii_digit}
 use Rattle.std.specs.Str.{str_eq_ignore_ascii_case}
-use Rattle.sq_lex.specs.Bytes.{Text}
+use Rattle.sq_lex.specs.Bytes.{TextBytes}
 use Rattle.sq_base.specs.Outcome.{Outcome, or_refused}
-use Rattle.sq_fql.specs.declared.codes.TheConstants.{BAD_PARAMETER, MAX_BOOST, MAX_COUNT, MAX_NEAR, NEAR}
+use Rattle.sq_base.specs.Limits.{greatest_distance, greatest_boost}
+use Rattle.sq_fql.specs.declared.codes.TheConstants.{BAD_PARAMETER}
 use Rattle.sq_fql.specs.declared.raw.Mode.{Mode}
 use Rattle.sq_fql.specs.declared.raw.Mode.TheVariants as mode
 use Rattle.sq_fql.specs.declared.raw.Op.{Op}
@@ -25,29 +26,30 @@ use Rattle.sq_fql.specs.Number.{size, size_from, natural, whole}
 use Rattle.sq_fql.specs.Operators.{named, parameters}
 use Rattle.sq_fql.specs.Parameters.{lower_bounds, upper_bounds, modes, setting_of, first, with_setting, set, with_value, distance, plain_string, string_operation, boosted, operation, or_default, nothing_given}
 use Rattle.sq_fql.specs.WellFormed.{operator_in, IsDistance, IsWithinLimits}
+use Rattle.sq_fql.specs.Limits.{greatest_count, fql_distance}
 
 -- ---- numbers
 
-size_from_digit : (digit over : Bool) (n b limit m : ℕ) (z : Text) → (size_from (10 * n + (b - 48)) z limit ≡ Some m → 10 * n + (b - 48) ≤ limit → m ≤ limit)
+size_from_digit : (digit over : Bool) (n b limit m : ℕ) (z : TextBytes) → (size_from (10 * n + (b - 48)) z limit ≡ Some m → 10 * n + (b - 48) ≤ limit → m ≤ limit)
     → nat_lt limit (10 * n + (b - 48)) ≡ over → cond (not digit) None (cond over None (size_from (10 * n + (b - 48)) z limit)) ≡ Some m → m ≤ limit
 size_from_digit false over n b limit m z next test is = absurd (cc)
 size_from_digit true true n b limit m z next test is = absurd (cc)
 size_from_digit true false n b limit m z next test is = next is (grind (arith, nat_tests))
 
-size_from_within : (n : ℕ) (z : Text) (limit m : ℕ) → n ≤ limit → size_from n z limit ≡ Some m → m ≤ limit
+size_from_within : (n : ℕ) (z : TextBytes) (limit m : ℕ) → n ≤ limit → size_from n z limit ≡ Some m → m ≤ limit
 size_from_within n [] limit m within is = let e : n ≡ m = cc in omega arith
 size_from_within n (b ∷ z) limit m within is =
     size_from_digit (is_ascii_digit b) (nat_lt limit (10 * n + (b - 48))) n b limit m z (λ read low. size_from_within (10 * n + (b - 48)) z limit m low read) refl is
 
-size_within : (z : Text) (limit m : ℕ) → size z limit ≡ Some m → m ≤ limit
+size_within : (z : TextBytes) (limit m : ℕ) → size z limit ≡ Some m → m ≤ limit
 size_within [] limit m is = absurd (cc)
 size_within (b ∷ z) limit m is = size_from_within 0 (b ∷ z) limit m (omega arith) is
 
-natural_by : (minus : Bool) (b : ℕ) (z : Text) (limit m : ℕ) → cond minus (size z 0) (size (b ∷ z) limit) ≡ Some m → m ≤ limit
+natural_by : (minus : Bool) (b : ℕ) (z : TextBytes) (limit m : ℕ) → cond minus (size z 0) (size (b ∷ z) limit) ≡ Some m → m ≤ limit
 natural_by true b z limit m is = let h = size_within z 0 m is in omega arith
 natural_by false b z limit m is = size_within (b ∷ z) limit m is
 
-natural_within : (z : Text) (limit m : ℕ) → natural z limit ≡ Some m → m ≤ limit
+natural_within : (z : TextBytes) (limit m : ℕ) → natural z limit ≡ Some m → m ≤ limit
 natural_within [] limit m is = absurd (cc)
 natural_within (b ∷ z) limit m is = natural_by (b == 45) b z limit m is
 
@@ -63,7 +65,7 @@ mapped f None y is = absurd (cc)
 neg_size : (n : ℕ) → unsigned_abs (neg_ℤ (pos n)) ≡ n
 neg_size n = grind (arith)
 
-whole_by : (minus : Bool) (b : ℕ) (z : Text) (limit : ℕ) (m : ℤ) → cond minus (option_map (λ n. neg_ℤ (pos n)) (size z limit)) (option_map pos (size (b ∷ z) limit)) ≡ Some m → unsigned_abs m ≤ limit
+whole_by : (minus : Bool) (b : ℕ) (z : TextBytes) (limit : ℕ) (m : ℤ) → cond minus (option_map (λ n. neg_ℤ (pos n)) (size z limit)) (option_map pos (size (b ∷ z) limit)) ≡ Some m → unsigned_abs m ≤ limit
 whole_by true b z limit m is =
     let h = mapped (λ n. neg_ℤ (pos n)) (size z limit) m is in
     let low = size_within z limit h.x h.is in
@@ -73,7 +75,7 @@ whole_by false b z limit m is =
     let low = size_within (b ∷ z) limit h.x h.is in
     let same : unsigned_abs m ≡ h.x = ap unsigned_abs (sym h.value) in omega (arith, same, low)
 
-whole_within : (z : Text) (limit : ℕ) (m : ℤ) → whole z limit ≡ Some m → unsigned_abs m ≤ limit
+whole_within : (z : TextBytes) (limit : ℕ) (m : ℤ) → whole z limit ≡ Some m → unsigned_abs m ≤ limit
 whole_within [] limit m is = absurd (cc)
 whole_within (b ∷ z) limit m is = whole_by (b == 45) b z limit m is
 
@@ -89,35 +91,35 @@ IsOf op parameter.Sample = is_boost op ≡ true
 IsOf op _ = Unit {0}
 
 abbrev pub IsSet : Operator → Setting → Type 0
-IsSet op (setting.N v) = is_boost op ≡ false → v ≤ MAX_NEAR
-IsSet op (setting.From v) = v ≤ MAX_COUNT
-IsSet op (setting.To v) = v ≤ MAX_COUNT
-IsSet op (setting.Cb v) = unsigned_abs v ≤ MAX_BOOST
+IsSet op (setting.N v) = is_boost op ≡ false → v ≤ greatest_distance
+IsSet op (setting.From v) = v ≤ greatest_count
+IsSet op (setting.To v) = v ≤ greatest_count
+IsSet op (setting.Cb v) = unsigned_abs v ≤ greatest_boost
 IsSet op _ = Unit {0}
 
-set_within : (op : Operator) (p : Parameter) (v : Text) (s : Setting) → IsOf op p → setting_of p v ≡ Some s → IsSet op s
+set_within : (op : Operator) (p : Parameter) (v : TextBytes) (s : Setting) → IsOf op p → setting_of p v ≡ Some s → IsSet op s
 set_within op parameter.Distance v s of is =
-    let h = mapped setting.N (natural v MAX_NEAR) s is in let Is = λ (x : Setting). IsSet op x in subst Is h.value (λ plain. natural_within v MAX_NEAR h.x h.is)
+    let h = mapped setting.N (natural v greatest_distance) s is in let Is = λ (x : Setting). IsSet op x in subst Is h.value (λ plain. natural_within v greatest_distance h.x h.is)
 set_within op parameter.From v s of is =
-    let h = mapped setting.From (natural v MAX_COUNT) s is in let Is = λ (x : Setting). IsSet op x in subst Is h.value (natural_within v MAX_COUNT h.x h.is)
+    let h = mapped setting.From (natural v greatest_count) s is in let Is = λ (x : Setting). IsSet op x in subst Is h.value (natural_within v greatest_count h.x h.is)
 set_within op parameter.To v s of is =
-    let h = mapped setting.To (natural v MAX_COUNT) s is in let Is = λ (x : Setting). IsSet op x in subst Is h.value (natural_within v MAX_COUNT h.x h.is)
+    let h = mapped setting.To (natural v greatest_count) s is in let Is = λ (x : Setting). IsSet op x in subst Is h.value (natural_within v greatest_count h.x h.is)
 set_within op parameter.Lower v s of is = let h = mapped setting.Above (named v lower_bounds) s is in let Is = λ (x : Setting). IsSet op x in subst Is h.value tt
 set_within op parameter.Upper v s of is = let h = mapped setting.Below (named v upper_bounds) s is in let Is = λ (x : Setting). IsSet op x in subst Is h.value tt
 set_within op parameter.ModeName v s of is = let h = mapped setting.Mode (named v modes) s is in let Is = λ (x : Setting). IsSet op x in subst Is h.value tt
 set_within op parameter.Cb v s of is =
-    let h = mapped setting.Cb (whole v MAX_BOOST) s is in let Is = λ (x : Setting). IsSet op x in subst Is h.value (whole_within v MAX_BOOST h.x h.is)
+    let h = mapped setting.Cb (whole v greatest_boost) s is in let Is = λ (x : Setting). IsSet op x in subst Is h.value (whole_within v greatest_boost h.x h.is)
 set_within op parameter.Sample v s of is =
-    let h = mapped setting.N (natural v MAX_BOOST) s is in let Is = λ (x : Setting). IsSet op x in subst Is h.value (λ plain. absurd (cc))
+    let h = mapped setting.N (natural v greatest_boost) s is in let Is = λ (x : Setting). IsSet op x in subst Is h.value (λ plain. absurd (cc))
 set_within op parameter.OtherBoost v s of is = absurd (cc)
 
 -- ---- what was given
 
 pub record IsGiven (op : Operator) (g : Given) : Type 0 where
-  pub n : is_boost op ≡ false → IfSome g.n (λ number. number.value ≤ MAX_NEAR)
-  pub from : IfSome g.from (λ v. v ≤ MAX_COUNT)
-  pub to : IfSome g.to (λ v. v ≤ MAX_COUNT)
-  pub cb : IfSome g.cb (λ v. unsigned_abs v ≤ MAX_BOOST)
+  pub n : is_boost op ≡ false → IfSome g.n (λ number. number.value ≤ greatest_distance)
+  pub from : IfSome g.from (λ v. v ≤ greatest_count)
+  pub to : IfSome g.to (λ v. v ≤ greatest_count)
+  pub cb : IfSome g.cb (λ v. unsigned_abs v ≤ greatest_boost)
 
 pub given_none : (op : Operator) → IsGiven op nothing_given
 given_none op = record { n = λ plain. tt; from = tt; to = tt; cb = tt }
@@ -126,14 +128,14 @@ first_same : {X : Type 0} (o : Option X) (x y : X) → first o x ≡ Some y → 
 first_same (Some z) x y is = absurd (cc)
 first_same None x y is = cc
 
-number_within : (o : Option Number) (v at : ℕ) (n : Number) → v ≤ MAX_NEAR → first o (record { value = v; at = at }) ≡ Some n → n.value ≤ MAX_NEAR
-number_within o v at n low is = let e = first_same o (record { value = v; at = at }) n is in subst (λ (m : Number). m.value ≤ MAX_NEAR) e low
+number_within : (o : Option Number) (v at : ℕ) (n : Number) → v ≤ greatest_distance → first o (record { value = v; at = at }) ≡ Some n → n.value ≤ greatest_distance
+number_within o v at n low is = let e = first_same o (record { value = v; at = at }) n is in subst (λ (m : Number). m.value ≤ greatest_distance) e low
 
-first_within : (o : Option ℕ) (v n : ℕ) → v ≤ MAX_COUNT → first o v ≡ Some n → n ≤ MAX_COUNT
-first_within o v n low is = let e = first_same o v n is in subst (λ (m : ℕ). m ≤ MAX_COUNT) e low
+first_within : (o : Option ℕ) (v n : ℕ) → v ≤ greatest_count → first o v ≡ Some n → n ≤ greatest_count
+first_within o v n low is = let e = first_same o v n is in subst (λ (m : ℕ). m ≤ greatest_count) e low
 
-boost_within : (o : Option ℤ) (v n : ℤ) → unsigned_abs v ≤ MAX_BOOST → first o v ≡ Some n → unsigned_abs n ≤ MAX_BOOST
-boost_within o v n low is = let e = first_same o v n is in subst (λ (m : ℤ). unsigned_abs m ≤ MAX_BOOST) e low
+boost_within : (o : Option ℤ) (v n : ℤ) → unsigned_abs v ≤ greatest_boost → first o v ≡ Some n → unsigned_abs n ≤ greatest_boost
+boost_within o v n low is = let e = first_same o v n is in subst (λ (m : ℤ). unsigned_abs m ≤ greatest_boost) e low
 
 given_with : (op : Operator) (s : Setting) (at : ℕ) (g now : Given) → IsGiven op g → IsSet op s → with_setting s at g ≡ Some now → IsGiven op now
 given_with op (setting.N v) at g now had is with =
@@ -162,11 +164,11 @@ set_ok : (op : Operator) (s : Setting) (at : ℕ) (g now : Given) (o : Option Gi
 set_ok op s at g now (Some h) had is with took = let e : h ≡ now = cc in let Is = λ (x : Given). IsGiven op x in subst Is e (given_with op s at g h had is with)
 set_ok op s at g now None had is with took = absurd (cc)
 
-set_given : (op : Operator) (p : Parameter) (v : Text) (s : Option Setting) (at : ℕ) (g now : Given) → IsOf op p → IsGiven op g → setting_of p v ≡ s → set s at g ≡ Ok now → IsGiven op now
+set_given : (op : Operator) (p : Parameter) (v : TextBytes) (s : Option Setting) (at : ℕ) (g now : Given) → IsOf op p → IsGiven op g → setting_of p v ≡ s → set s at g ≡ Ok now → IsGiven op now
 set_given op p v None at g now of had is took = absurd (cc)
 set_given op p v (Some s) at g now of had is took = set_ok op s at g now (with_setting s at g) had (set_within op p v s of is) refl took
 
-pub value_given : (op : Operator) (o : Option Parameter) (v : Text) (at : ℕ) (g now : Given) → IfSome o (IsOf op) → IsGiven op g → with_value o v at g ≡ Ok now → IsGiven op now
+pub value_given : (op : Operator) (o : Option Parameter) (v : TextBytes) (at : ℕ) (g now : Given) → IfSome o (IsOf op) → IsGiven op g → with_value o v at g ≡ Ok now → IsGiven op now
 value_given op None v at g now of had took = absurd (cc)
 value_given op (Some p) v at g now of had took = set_given op p v (setting_of p v) at g now of had refl took
 
@@ -176,11 +178,11 @@ named_by : {X : Type 0} (P : X → Type 0) (same : Bool) (x : X) (rest : Option 
 named_by P true x rest one more = one
 named_by P false x rest one more = more
 
-named_all : {X : Type 0} (P : X → Type 0) (word : Text) (entries : List (Text × X)) → AllByRecursion (λ (e : Text × X). P e.1) entries → IfSome (named word entries) P
+named_all : {X : Type 0} (P : X → Type 0) (word : TextBytes) (entries : List (TextBytes × X)) → AllByRecursion (λ (e : TextBytes × X). P e.1) entries → IfSome (named word entries) P
 named_all P word [] all = tt
 named_all {X} P word (e ∷ entries) all = named_by P (str_eq_ignore_ascii_case word e.0) e.1 (named word entries) all.0 (named_all P word entries all.1)
 
-all_of : (op : Operator) → AllByRecursion (λ (e : Text × Parameter). IsOf op e.1) (parameters op)
+all_of : (op : Operator) → AllByRecursion (λ (e : TextBytes × Parameter). IsOf op e.1) (parameters op)
 all_of operator.And = tt
 all_of operator.Or = tt
 all_of operator.Any = tt
@@ -201,7 +203,7 @@ all_of operator.Str = (tt, (tt, tt))
 all_of operator.Int = tt
 all_of operator.DateTime = tt
 
-pub named_of : (op : Operator) (word : Text) → IfSome (named word (parameters op)) (IsOf op)
+pub named_of : (op : Operator) (word : TextBytes) → IfSome (named word (parameters op)) (IsOf op)
 named_of op word = named_all (IsOf op) word (parameters op) (all_of op)
 
 -- ---- the operator that they make
@@ -210,22 +212,22 @@ pub record Makes (op : Operator) (o : Op) : Type 0 where
   pub same : operator_in o ≡ op
   pub limits : IsWithinLimits o
 
-distance_within : (n : Option Number) → IfSome n (λ number. number.value ≤ MAX_NEAR) → distance n ≤ MAX_NEAR
+distance_within : (n : Option Number) → IfSome n (λ number. number.value ≤ greatest_distance) → distance n ≤ greatest_distance
 distance_within (Some n) low = low
 distance_within None low = omega arith
 
-default_within : (o : Option ℕ) → IfSome o (λ v. v ≤ MAX_COUNT) → or_default o 1 ≤ MAX_COUNT
+default_within : (o : Option ℕ) → IfSome o (λ v. v ≤ greatest_count) → or_default o 1 ≤ greatest_count
 default_within (Some v) low = low
 default_within None low = omega arith
 
 makes : (op : Operator) (made o : Op) → operator_in made ≡ op → IsWithinLimits made → ◌≡◌ {A = Outcome Op} (Ok made) (Ok o) → Makes op o
 makes op made o same limits is = let e : made ≡ o = cc in subst (Makes op) e (record { same = same; limits = limits })
 
-plain_makes : (m : Mode) (n : Option Number) (o : Op) → IsDistance m NEAR → plain_string m n ≡ Ok o → Makes operator.Str o
+plain_makes : (m : Mode) (n : Option Number) (o : Op) → IsDistance m fql_distance → plain_string m n ≡ Ok o → Makes operator.Str o
 plain_makes m (Some n) o plain is = absurd (cc)
-plain_makes m None o plain is = makes operator.Str (op.Str m NEAR) o refl plain is
+plain_makes m None o plain is = makes operator.Str (op.Str m fql_distance) o refl plain is
 
-string_makes : (m : Mode) (n : Option Number) (o : Op) → IfSome n (λ number. number.value ≤ MAX_NEAR) → string_operation m n ≡ Ok o → Makes operator.Str o
+string_makes : (m : Mode) (n : Option Number) (o : Op) → IfSome n (λ number. number.value ≤ greatest_distance) → string_operation m n ≡ Ok o → Makes operator.Str o
 string_makes mode.Near n o low is = makes operator.Str (op.Str mode.Near (distance n)) o refl (distance_within n low) is
 string_makes mode.Onear n o low is = makes operator.Str (op.Str mode.Onear (distance n)) o refl (distance_within n low) is
 string_makes mode.Phrase n o low is = plain_makes mode.Phrase n o refl is
@@ -233,7 +235,7 @@ string_makes mode.And n o low is = plain_makes mode.And n o refl is
 string_makes mode.Or n o low is = plain_makes mode.Or n o refl is
 string_makes mode.Any n o low is = plain_makes mode.Any n o refl is
 
-boost_makes : (cb : Option ℤ) (at : ℕ) (o : Op) → IfSome cb (λ v. unsigned_abs v ≤ MAX_BOOST) → boosted cb at ≡ Ok o → Makes operator.Xrank o
+boost_makes : (cb : Option ℤ) (at : ℕ) (o : Op) → IfSome cb (λ v. unsigned_abs v ≤ greatest_boost) → boosted cb at ≡ Ok o → Makes operator.Xrank o
 boost_makes (Some cb) at o low is = makes operator.Xrank (op.Xrank cb) o refl low is
 boost_makes None at o low is = absurd (cc)
 

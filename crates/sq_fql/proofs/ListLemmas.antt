@@ -5,7 +5,7 @@ use Rattle.sq_base.specs.declared.faults.Fault.{Fault}
 use Rattle.sq_base.specs.declared.faults.Fault.TheVariants as faults
 use Rattle.sq_base.specs.Outcome.{Fails}
 use Rattle.sq_lex.specs.declared.fql_lexeme.FLexeme.{FLexeme}
-use Rattle.sq_lex.specs.Bytes.{Text}
+use Rattle.sq_lex.specs.Bytes.{TextBytes}
 use Rattle.sq_fql.specs.declared.operator.Operator.{Operator}
 use Rattle.sq_fql.specs.declared.read.Found.{Found}
 use Rattle.sq_fql.specs.declared.codes.TheConstants.{TOO_DEEP}
@@ -15,12 +15,12 @@ use Rattle.sq_fql.specs.declared.raw.Op.{Op}
 use Rattle.sq_fql.specs.Read.{Reader, nothing, behind, first_at, word_text, separator, entry, entries, completed, applied, scoped, deeper, expression}
 
 -- Entries were found up to the lexemes that are left, and those from there on complete the list.
-pub record Lists (inner : Reader) (z : Text) (op : Operator) (all : List FLexeme) (found : Found) (left : List FLexeme) : Type 0 where
+pub record Lists (inner : Reader) (z : TextBytes) (op : Operator) (all : List FLexeme) (found : Found) (left : List FLexeme) : Type 0 where
   pub turns : ℕ
   pub enough : length left ≤ turns
   pub same : entries inner (suc turns) z op found left ≡ entries inner (suc (length all)) z op nothing all
 
-module _ (inner : Reader) (z : Text) (op : Operator) (all : List FLexeme) where
+module _ (inner : Reader) (z : TextBytes) (op : Operator) (all : List FLexeme) where
   pub lists_start : (found : Found) → found ≡ nothing → Lists inner z op all found all
   lists_start found none = record { turns = length all; enough = omega arith; same = rw none refl }
 
@@ -68,17 +68,17 @@ module _ (inner : Reader) (z : Text) (op : Operator) (all : List FLexeme) where
 
 -- ---- levels
 
-pub deeper_none : (levels : ℕ) (z : Text) → levels ≡ 0 → deeper levels z ≡ None
+pub deeper_none : (levels : ℕ) (z : TextBytes) → levels ≡ 0 → deeper levels z ≡ None
 unfolding deeper
 deeper_none zero z none = refl
 deeper_none (suc levels) z none = absurd (omega arith)
 
-pub deeper_some : (levels : ℕ) (z : Text) → levels ≢ 0 → deeper levels z ≡ Some (expression (levels - 1) z)
+pub deeper_some : (levels : ℕ) (z : TextBytes) → levels ≢ 0 → deeper levels z ≡ Some (expression (levels - 1) z)
 unfolding deeper
 deeper_some zero z some = absurd (some refl)
 deeper_some (suc levels) z some = let less : levels ≡ suc levels - 1 = omega arith in ap (λ n. Some (expression n z)) less
 
-module _ (levels : ℕ) (z : Text) (x : FLexeme) (xs ys : List FLexeme) where
+module _ (levels : ℕ) (z : TextBytes) (x : FLexeme) (xs ys : List FLexeme) where
   pub scope_too_deep : (at : ℕ) (fault : QueryFault) → levels ≡ 0 → at ≡ first_at xs → fault ≡ record { code = TOO_DEEP; at = at } → scoped (deeper levels z) z x xs ≡ Err fault
   scope_too_deep at fault none place is = rw (deeper_none levels z none, is, place) refl
 
@@ -89,7 +89,7 @@ module _ (levels : ℕ) (z : Text) (x : FLexeme) (xs ys : List FLexeme) where
   scope_fails faults.NoMemory some rest read = tt
   scope_fails (faults.Query fault) some rest read = scope_refused fault some rest read
 
-  pub scope_read : (t : FRaw) (left : List FLexeme) (name : Text) → levels ≢ 0 → ys ≡ behind xs → expression (levels - 1) z ys ≡ Ok (t, left) → name ≡ word_text z x
+  pub scope_read : (t : FRaw) (left : List FLexeme) (name : TextBytes) → levels ≢ 0 → ys ≡ behind xs → expression (levels - 1) z ys ≡ Ok (t, left) → name ≡ word_text z x
       → scoped (deeper levels z) z x xs ≡ Ok (tree.Scope x.from name t, left)
   scope_read t left name some rest read is = rw (deeper_some levels z some, ← rest, read, is) refl
 

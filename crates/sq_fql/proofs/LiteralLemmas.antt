@@ -11,7 +11,7 @@ use Rattle.sq_lex.specs.declared.class.Class.TheVariants as class
 use Rattle.sq_lex.specs.declared.fql_lexeme.FKind.{FKind}
 use Rattle.sq_lex.specs.declared.fql_lexeme.FKind.TheVariants as kind
 use Rattle.sq_lex.specs.declared.fql_lexeme.FLexeme.{FLexeme}
-use Rattle.sq_lex.specs.Bytes.{Text, is_in}
+use Rattle.sq_lex.specs.Bytes.{TextBytes, is_in}
 use Rattle.sq_lex.specs.Fql.{word_class}
 use Rattle.sq_lex.specs.FqlShape.{IsLexeme, IsSpelled}
 use Rattle.sq_lex.specs.FqlWhole.{HasInside, IsWhole}
@@ -49,18 +49,18 @@ unescaped_length true (c ∷ cs) =
     ap length (all_encoded-append (meant c) (unescaped false cs)) ∙ length-append (encode_utf8_all (meant c)) (encode_utf8_all (unescaped false cs)) in
     omega (arith, both, front, h, length-append (encode_utf8 c) (encode_utf8_all cs))
 
-range_length : (z : Text) (from to : ℕ) → length (slice_range z from to) ≤ to - from
+range_length : (z : TextBytes) (from to : ℕ) → length (slice_range z from to) ≤ to - from
 range_length z from to = simp length-take (omega arith)
 
 -- a lexeme of a text
-pub record Good (z : Text) (x : FLexeme) : Type 0 where
+pub record Good (z : TextBytes) (x : FLexeme) : Type 0 where
   pub lexeme : IsLexeme z x
   pub whole : IsWhole z x
 
 abbrev pub width : FLexeme → ℕ
 width x = x.to - x.from
 
-inside_length : (z : Text) (k : FKind) (x : FLexeme) → IsUtf8 z → HasInside z x.from x.to k → x.from < x.to → length (content_of z k x) ≤ width x
+inside_length : (z : TextBytes) (k : FKind) (x : FLexeme) → IsUtf8 z → HasInside z x.from x.to k → x.from < x.to → length (content_of z k x) ≤ width x
 inside_length z kind.Str x utf8 inside some =
     let s = slice_range z (x.from + 1) (x.to - 1) in
     let text : IsUtf8 s = IsUtf8-between z (x.from + 1) (x.to - 1) utf8 inside.ordered inside.start inside.end in
@@ -73,7 +73,7 @@ inside_length z kind.Comma x utf8 inside some = range_length z x.from x.to
 inside_length z kind.EqualSign x utf8 inside some = range_length z x.from x.to
 inside_length z kind.Colon x utf8 inside some = range_length z x.from x.to
 
-content_length : (z : Text) (x : FLexeme) → IsUtf8 z → Good z x → length (content z x) ≤ width x
+content_length : (z : TextBytes) (x : FLexeme) → IsUtf8 z → Good z x → length (content z x) ≤ width x
 content_length z x utf8 good = inside_length z x.kind x utf8 good.whole.inside good.whole.some
 
 -- ---- literals
@@ -87,7 +87,7 @@ pub record Leaf (x : FLexeme) (t : FRaw) : Type 0 where
   pub form : HasForm t
   pub weight : weight t ≤ width x
 
-literal_by : (star : Bool) (x : FLexeme) (text : Text) (t : FRaw) → has_bad_star text ≡ star → length text ≤ width x → cond star (refused BAD_STAR x.from) (Ok (piece x.from text)) ≡ Ok t
+literal_by : (star : Bool) (x : FLexeme) (text : TextBytes) (t : FRaw) → has_bad_star text ≡ star → length text ≤ width x → cond star (refused BAD_STAR x.from) (Ok (piece x.from text)) ≡ Ok t
     → Leaf x t × IsLiteral t
 literal_by true x text t is short took = absurd (cc)
 literal_by false x text t is short took =
@@ -95,31 +95,31 @@ literal_by false x text t is short took =
     let Is = λ (u : FRaw). Leaf x u × IsLiteral u in
     subst Is e (record { form = no_star (first_bad_star text) is; weight = omega (arith, short) }, refl)
 
-pub literal_leaf : (z : Text) (x : FLexeme) (t : FRaw) → IsUtf8 z → Good z x → literal z x ≡ Ok t → Leaf x t × IsLiteral t
+pub literal_leaf : (z : TextBytes) (x : FLexeme) (t : FRaw) → IsUtf8 z → Good z x → literal z x ≡ Ok t → Leaf x t × IsLiteral t
 unfolding literal
 literal_leaf z x t utf8 good took = literal_by (has_bad_star (content z x)) x (content z x) t refl (content_length z x utf8 good) took
 
-leaf_by : (all : Bool) (z : Text) (x : FLexeme) (t : FRaw) → IsUtf8 z → Good z x → cond all (Ok (tree.All x.from)) (literal z x) ≡ Ok t → Leaf x t
+leaf_by : (all : Bool) (z : TextBytes) (x : FLexeme) (t : FRaw) → IsUtf8 z → Good z x → cond all (Ok (tree.All x.from)) (literal z x) ≡ Ok t → Leaf x t
 leaf_by true z x t utf8 good took = let e : tree.All x.from ≡ t = cc in subst (Leaf x) e (record { form = tt; weight = omega arith })
 leaf_by false z x t utf8 good took = (literal_leaf z x t utf8 good took).0
 
-pub leaf_leaf : (z : Text) (x : FLexeme) (t : FRaw) → IsUtf8 z → Good z x → leaf z x ≡ Ok t → Leaf x t
+pub leaf_leaf : (z : TextBytes) (x : FLexeme) (t : FRaw) → IsUtf8 z → Good z x → leaf z x ≡ Ok t → Leaf x t
 unfolding leaf
 leaf_leaf z x t utf8 good took = leaf_by (is_all z x) z x t utf8 good took
 
 -- ---- names
 
-all_at : (p : ℕ → Bool) (s : Text) → ((i : ℕ) → i < length s → p (get_or s i 0) ≡ true) → list_all p s ≡ true
+all_at : (p : ℕ → Bool) (s : TextBytes) → ((i : ℕ) → i < length s → p (get_or s i 0) ≡ true) → list_all p s ≡ true
 all_at p [] each = refl
 all_at p (b ∷ s) each = ap₂ (λ x y. x && y) (each 0 (omega arith)) (all_at p s (λ i below. each (suc i) (omega arith)))
 
 letter_class : (b : ℕ) → is_ascii_alphabetic b ≡ true → word_class b ≡ class.Term
 letter_class b letter = grind (arith, nat_tests)
 
-range_at : (z : Text) (from to i : ℕ) → i < length (slice_range z from to) → get_or (slice_range z from to) i 0 ≡ get_or z (from + i) 0
+range_at : (z : TextBytes) (from to i : ℕ) → i < length (slice_range z from to) → get_or (slice_range z from to) i 0 ≡ get_or z (from + i) 0
 range_at z from to i below = get_or-take (to - from) (drop from z) i 0 (omega (arith, range_length z from to)) ∙ get_or-drop from z i 0
 
-word_name : (z : Text) (x : FLexeme) → x.from < x.to → x.to ≤ length z → IsSpelled z kind.Word x.from x.to → is_ascii_alphabetic (get_or z x.from 0) ≡ true → IsName (word_text z x)
+word_name : (z : TextBytes) (x : FLexeme) → x.from < x.to → x.to ≤ length z → IsSpelled z kind.Word x.from x.to → is_ascii_alphabetic (get_or z x.from 0) ≡ true → IsName (word_text z x)
 word_name z x some within spelled letter =
     let of = letter_class (get_or z x.from 0) letter in
     let size : length (word_text z x) ≡ x.to - x.from = simp (length-take, length-drop) (omega arith) in
@@ -130,7 +130,7 @@ word_name z x some within spelled letter =
           (λ i below. ap (is_in class.Term) (range_at z x.from x.to i below) ∙ (ap (λ c. is_in c (get_or z (x.from + i) 0)) (sym of) ∙ spelled.0 (x.from + i) (omega arith) (omega (arith, size))));
     }
 
-pub scope_name : (z : Text) (x : FLexeme) → Good z x → x.kind ≡ kind.Word → is_ascii_alphabetic (get_or z x.from 0) ≡ true → IsName (word_text z x)
+pub scope_name : (z : TextBytes) (x : FLexeme) → Good z x → x.kind ≡ kind.Word → is_ascii_alphabetic (get_or z x.from 0) ≡ true → IsName (word_text z x)
 scope_name z x good is letter =
     let l = good.lexeme in
     let Spelled = λ (k : FKind). IsSpelled z k x.from x.to in

@@ -3,15 +3,15 @@ use Rattle.std.proofs.Common.{◌≡◌, ◌≢◌, ℕ, zero, suc, ◌+◌, ◌
 use Rattle.std.proofs.lemmas.Bool.Decides.{nat_tests}
 use Rattle.std.specs.Char.{is_ascii_alphabetic}
 use Rattle.std.specs.List.{AllByRecursion}
-use Rattle.sq_lex.specs.declared.codes.TheConstants.{MAX_TEXT}
 use Rattle.sq_lex.specs.declared.fql_lexeme.FKind.{FKind}
 use Rattle.sq_lex.specs.declared.fql_lexeme.FKind.TheVariants as kind
 use Rattle.sq_lex.specs.declared.fql_lexeme.FLexeme.{FLexeme}
-use Rattle.sq_lex.specs.Bytes.{Text}
+use Rattle.sq_lex.specs.Bytes.{TextBytes}
 use Rattle.sq_lex.specs.FqlShape.{AreFrom}
 use Rattle.sq_lex.specs.FqlWhole.{AreWhole}
+use Rattle.sq_lex.specs.Limits.{most_text_bytes, most_levels}
 use Rattle.sq_base.specs.Outcome.{Outcome, refused, ◌>>=◌}
-use Rattle.sq_fql.specs.declared.codes.TheConstants.{MAX_LEVELS, MISSING_ARGUMENT}
+use Rattle.sq_fql.specs.declared.codes.TheConstants.{MISSING_ARGUMENT}
 use Rattle.sq_fql.specs.declared.raw.FRaw.{FRaw}
 use Rattle.sq_fql.specs.declared.raw.FRaw.TheVariants as tree
 use Rattle.sq_fql.specs.declared.raw.Op.{Op}
@@ -42,7 +42,7 @@ bound (Err fault) f y is = absurd (cc)
 
 -- ---- lexemes
 
-abbrev pub AllGood : Text → List FLexeme → Type 0
+abbrev pub AllGood : TextBytes → List FLexeme → Type 0
 AllGood z xs = AllByRecursion (Good z) xs
 
 -- the bytes of lexemes
@@ -50,7 +50,7 @@ abbrev pub size : List FLexeme → ℕ
 size [] = 0
 size (x ∷ xs) = width x + size xs
 
-good_behind : (z : Text) (xs : List FLexeme) → AllGood z xs → AllGood z (behind xs)
+good_behind : (z : TextBytes) (xs : List FLexeme) → AllGood z xs → AllGood z (behind xs)
 good_behind z [] good = tt
 good_behind z (x ∷ xs) good = good.1
 
@@ -68,11 +68,11 @@ wanted_same kind.EqualSign y x is = absurd (cc)
 wanted_same kind.Colon y x is = absurd (cc)
 
 -- the first lexeme, which is good, and those behind it
-record Begins (z : Text) (xs : List FLexeme) (x : FLexeme) : Type 0 where
+record Begins (z : TextBytes) (xs : List FLexeme) (x : FLexeme) : Type 0 where
   good : Good z x
   size : width x + size (behind xs) ≤ size xs
 
-begins : (z : Text) (xs : List FLexeme) (x : FLexeme) → AllGood z xs → wanted z xs ≡ Ok x → Begins z xs x
+begins : (z : TextBytes) (xs : List FLexeme) (x : FLexeme) → AllGood z xs → wanted z xs ≡ Ok x → Begins z xs x
 begins z [] x good is = absurd (cc)
 begins z (y ∷ ys) x good is = let e = wanted_same y.kind y x is in subst (Begins z (y ∷ ys)) e (record { good = good.0; size = omega arith })
 
@@ -89,12 +89,12 @@ role_word kind.Colon xs is = absurd (is refl)
 -- ---- trees
 
 -- a tree that was read of the first lexemes
-pub record Formed (z : Text) (xs : List FLexeme) (t : FRaw) (rest : List FLexeme) : Type 0 where
+pub record Formed (z : TextBytes) (xs : List FLexeme) (t : FRaw) (rest : List FLexeme) : Type 0 where
   pub form : HasForm t
   pub fits : weight t + size rest ≤ size xs
   pub good : AllGood z rest
 
-abbrev pub IsGoodReader : Text → Reader → Type 0
+abbrev pub IsGoodReader : TextBytes → Reader → Type 0
 IsGoodReader z inner = (xs : List FLexeme) (t : FRaw) (rest : List FLexeme) → AllGood z xs → inner xs ≡ Ok (t, rest) → Formed z xs t rest
 
 -- what a list has so far
@@ -105,7 +105,7 @@ pub record IsFound (op : Operator) (f : Found) : Type 0 where
   pub given : IsGiven op f.given
 
 -- a list went on from some lexemes to others
-record Goes (z : Text) (op : Operator) (f : Found) (xs : List FLexeme) (now : Found) (rest : List FLexeme) : Type 0 where
+record Goes (z : TextBytes) (op : Operator) (f : Found) (xs : List FLexeme) (now : Found) (rest : List FLexeme) : Type 0 where
   found : IsFound op now
   fits : weights now.operands + size rest ≤ weights f.operands + size xs
   good : AllGood z rest
@@ -125,14 +125,14 @@ pairs {A} {B} a c b d is = let e : (a, b) ≡ (c, d) = cc in (ap (λ (p : A × B
 abbrev applied_op : FLexeme → Listed → Op → Read
 applied_op x l o = Ok (tree.Apply x.from o l.0.operands, l.2)
 
-abbrev scoped_tree : Text → FLexeme → FRaw × List FLexeme → Read
+abbrev scoped_tree : TextBytes → FLexeme → FRaw × List FLexeme → Read
 scoped_tree z x t = Ok (tree.Scope x.from (word_text z x) t.0, t.1)
 
 most_none : (most : Option ℕ) → IfSome most (λ m. 0 ≤ m)
 most_none None = tt
 most_none (Some m) = omega arith
 
-module _ (z : Text) (utf8 : IsUtf8 z) where
+module _ (z : TextBytes) (utf8 : IsUtf8 z) where
   literal_only_leaf : (r : Role) (x : FLexeme) (t : FRaw) → Good z x → literal_only z r x ≡ Ok t → Leaf x t × IsLiteral t
   literal_only_leaf role.Operator x t good is = absurd (cc)
   literal_only_leaf role.Scope x t good is = absurd (cc)
@@ -403,12 +403,12 @@ module _ (z : Text) (utf8 : IsUtf8 z) where
   all_good at (x ∷ xs) are whole = (record { lexeme = are.2; whole = whole.0 }, all_good x.to xs are.3 whole.1)
 
   -- a tree that was read of the lexemes of a text is well formed
-  pub read_formed : (xs : List FLexeme) (t : FRaw) → length z ≤ MAX_TEXT → AreFrom z 0 xs → AreWhole z xs → whole_of z xs ≡ Ok t → IsWellFormed t
+  pub read_formed : (xs : List FLexeme) (t : FRaw) → length z ≤ most_text_bytes → AreFrom z 0 xs → AreWhole z xs → whole_of z xs ≡ Ok t → IsWellFormed t
   unfolding whole_of
   read_formed [] t short are whole is = absurd (cc)
   read_formed (x ∷ xs) t short are whole is =
-      let h = bound (expression MAX_LEVELS z (x ∷ xs)) (λ (r : FRaw × List FLexeme). alone r.0 r.1) t is in
-      let f = over_formed (deeper MAX_LEVELS z) (deeper_formed MAX_LEVELS) (x ∷ xs) h.x.0 h.x.1 (all_good 0 (x ∷ xs) are whole) h.first in
+      let h = bound (expression most_levels z (x ∷ xs)) (λ (r : FRaw × List FLexeme). alone r.0 r.1) t is in
+      let f = over_formed (deeper most_levels z) (deeper_formed most_levels) (x ∷ xs) h.x.0 h.x.1 (all_good 0 (x ∷ xs) are whole) h.first in
       let same = alone_same h.x.0 t h.x.1 h.then in
       let fits = f.fits in
       let room = size_from 0 (x ∷ xs) are (omega arith) in

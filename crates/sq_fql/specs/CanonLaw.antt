@@ -1,8 +1,7 @@
 -- Canonical texts are read as their trees.
 use Rattle.std.specs.Prelude.{◌≡◌, ℕ, suc, ◌≤◌, List, [], ◌∷◌, length, max, Ok}
 use Rattle.std.specs.Str.{IsUtf8}
-use Rattle.sq_lex.specs.declared.codes.TheConstants.{MAX_TEXT}
-use Rattle.sq_fql.specs.declared.codes.TheConstants.{MAX_LEVELS}
+use Rattle.sq_lex.specs.Limits.{most_text_bytes, most_levels}
 use Rattle.sq_fql.specs.declared.raw.FRaw.{FRaw, All, Literal, Scope', Apply', Row_of-FRaw, end_of-FRaw, more_of-FRaw}
 use Rattle.sq_fql.specs.declared.raw.FRaw.TheVariants as tree
 use Rattle.sq_fql.specs.Canon.{canon}
@@ -53,8 +52,8 @@ pub record IsReadAs (z : List ℕ) (t : FRaw) : Type 0 where
 
 -- The canonical text of a well-formed tree is read as the tree, unless it is too long or the tree too deep.
 abbrev pub CanonReadsBack : Type 0
-CanonReadsBack = (t : FRaw) → IsWellFormed t → AreTexts t → levels t ≤ MAX_LEVELS → length (canon t) ≤ MAX_TEXT → IsReadAs (canon t) t
+CanonReadsBack = (t : FRaw) → IsWellFormed t → AreTexts t → levels t ≤ most_levels → length (canon t) ≤ most_text_bytes → IsReadAs (canon t) t
 
 -- A text is read as a tree that is well formed, unless it is too long or the tree too deep.
 abbrev pub ReadsBack : List ℕ → FRaw → Type 0
-ReadsBack z t = IsWellFormed t → levels t ≤ MAX_LEVELS → length z ≤ MAX_TEXT → IsReadAs z t
+ReadsBack z t = IsWellFormed t → levels t ≤ most_levels → length z ≤ most_text_bytes → IsReadAs z t

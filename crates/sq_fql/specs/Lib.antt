@@ -1,5 +1,6 @@
 pub mod Canon
 pub mod CanonLaw
+pub mod Limits
 pub mod Number
 pub mod Operators
 pub mod Parameters

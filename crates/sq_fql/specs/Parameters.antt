@@ -1,9 +1,10 @@
 -- Parameters: what their values set, and the operator that they make.
 use Rattle.std.specs.Prelude.{ℕ, ℤ, Bool, true, false, List, [], ◌∷◌, Option, Some, None, Ok, codes}
 use Rattle.std.specs.Option.{option_map}
-use Rattle.sq_lex.specs.Bytes.{Text}
+use Rattle.sq_lex.specs.Bytes.{TextBytes}
 use Rattle.sq_base.specs.Outcome.{Outcome, refused, or_refused}
-use Rattle.sq_fql.specs.declared.codes.TheConstants.{BAD_PARAMETER, MAX_BOOST, MAX_COUNT, MAX_NEAR, MISSING_ARGUMENT, NEAR}
+use Rattle.sq_base.specs.Limits.{greatest_distance, greatest_boost}
+use Rattle.sq_fql.specs.declared.codes.TheConstants.{BAD_PARAMETER, MISSING_ARGUMENT}
 use Rattle.sq_fql.specs.declared.raw.Mode.{Mode}
 use Rattle.sq_fql.specs.declared.raw.Mode.TheVariants as mode
 use Rattle.sq_fql.specs.declared.raw.Op.{Op}
@@ -18,32 +19,33 @@ use Rattle.sq_fql.specs.declared.parameter.Number.{Number}
 use Rattle.sq_fql.specs.declared.parameter.Given.{Given}
 use Rattle.sq_fql.specs.Number.{natural, whole}
 use Rattle.sq_fql.specs.Operators.{named}
+use Rattle.sq_fql.specs.Limits.{greatest_count, fql_distance}
 
 -- ---- values
 
 -- whether a range begins above its first bound
-abbrev pub lower_bounds : List (Text × Bool)
+abbrev pub lower_bounds : List (TextBytes × Bool)
 lower_bounds = (codes "gt", true) ∷ (codes "ge", false) ∷ []
 
 -- whether a range ends below its second bound
-abbrev pub upper_bounds : List (Text × Bool)
+abbrev pub upper_bounds : List (TextBytes × Bool)
 upper_bounds = (codes "lt", true) ∷ (codes "le", false) ∷ []
 
-abbrev pub modes : List (Text × Mode)
+abbrev pub modes : List (TextBytes × Mode)
 modes =
     (codes "phrase", mode.Phrase) ∷ (codes "and", mode.And) ∷ (codes "or", mode.Or) ∷ (codes "any", mode.Any) ∷ (codes "near", mode.Near)
     ∷ (codes "onear", mode.Onear) ∷ []
 
 -- what a value sets as a parameter
-abbrev pub setting_of : Parameter → Text → Option Setting
-setting_of parameter.Distance v = option_map setting.N (natural v MAX_NEAR)
-setting_of parameter.From v = option_map setting.From (natural v MAX_COUNT)
-setting_of parameter.To v = option_map setting.To (natural v MAX_COUNT)
+abbrev pub setting_of : Parameter → TextBytes → Option Setting
+setting_of parameter.Distance v = option_map setting.N (natural v greatest_distance)
+setting_of parameter.From v = option_map setting.From (natural v greatest_count)
+setting_of parameter.To v = option_map setting.To (natural v greatest_count)
 setting_of parameter.Lower v = option_map setting.Above (named v lower_bounds)
 setting_of parameter.Upper v = option_map setting.Below (named v upper_bounds)
 setting_of parameter.ModeName v = option_map setting.Mode (named v modes)
-setting_of parameter.Cb v = option_map setting.Cb (whole v MAX_BOOST)
-setting_of parameter.Sample v = option_map setting.N (natural v MAX_BOOST)
+setting_of parameter.Cb v = option_map setting.Cb (whole v greatest_boost)
+setting_of parameter.Sample v = option_map setting.N (natural v greatest_boost)
 setting_of parameter.OtherBoost v = None
 
 -- ---- what was given
@@ -71,7 +73,7 @@ set None at g = refused BAD_PARAMETER at
 set (Some s) at g = or_refused (with_setting s at g) BAD_PARAMETER at
 
 -- with the value of a parameter whose name stands at a place; a fault where there is no such parameter or value, or it was given before
-abbrev pub with_value : Option Parameter → Text → ℕ → Given → Outcome Given
+abbrev pub with_value : Option Parameter → TextBytes → ℕ → Given → Outcome Given
 with_value None v at g = refused BAD_PARAMETER at
 with_value (Some p) v at g = set (setting_of p v) at g
 
@@ -83,12 +85,12 @@ or_default None y = y
 
 abbrev pub distance : Option Number → ℕ
 distance (Some n) = n.value
-distance None = NEAR
+distance None = fql_distance
 
 -- a string has a distance only where its mode is near or onear
 abbrev pub plain_string : Mode → Option Number → Outcome Op
 plain_string m (Some n) = refused BAD_PARAMETER n.at
-plain_string m None = Ok (op.Str m NEAR)
+plain_string m None = Ok (op.Str m fql_distance)
 
 abbrev pub string_operation : Mode → Option Number → Outcome Op
 string_operation mode.Near n = Ok (op.Str mode.Near (distance n))

@@ -6,10 +6,11 @@ use Rattle.sq_tokens.specs.Pattern.{first_bad_star}
 use Rattle.sq_lex.specs.declared.fql_lexeme.FKind.{FKind}
 use Rattle.sq_lex.specs.declared.fql_lexeme.FKind.TheVariants as kind
 use Rattle.sq_lex.specs.declared.fql_lexeme.FLexeme.{FLexeme}
-use Rattle.sq_lex.specs.Bytes.{Text}
+use Rattle.sq_lex.specs.Bytes.{TextBytes}
 use Rattle.sq_lex.specs.Fql.{fql_lexemes_of}
+use Rattle.sq_lex.specs.Limits.{most_levels}
 use Rattle.sq_base.specs.Outcome.{Outcome, refused, ◌>>=◌}
-use Rattle.sq_fql.specs.declared.codes.TheConstants.{EMPTY_QUERY, UNKNOWN_OPERATOR, MISSING_ARGUMENT, EXTRA_ARGUMENT, UNEXPECTED, UNCLOSED_PAREN, TOO_DEEP, OTHER_BOOST, BAD_STAR, MAX_LEVELS}
+use Rattle.sq_fql.specs.declared.codes.TheConstants.{EMPTY_QUERY, UNKNOWN_OPERATOR, MISSING_ARGUMENT, EXTRA_ARGUMENT, UNEXPECTED, UNCLOSED_PAREN, TOO_DEEP, OTHER_BOOST, BAD_STAR}
 use Rattle.sq_fql.specs.declared.raw.FRaw.{FRaw}
 use Rattle.sq_fql.specs.declared.raw.FRaw.TheVariants as tree
 use Rattle.sq_fql.specs.declared.raw.Op.{Op}
@@ -69,7 +70,7 @@ wanted_kind kind.RightParen x = refused MISSING_ARGUMENT x.from
 wanted_kind _ x = refused UNEXPECTED x.from
 
 -- the word or the string that an operand or a value begins with
-abbrev pub wanted : Text → List FLexeme → Outcome FLexeme
+abbrev pub wanted : TextBytes → List FLexeme → Outcome FLexeme
 wanted z [] = refused MISSING_ARGUMENT (length z)
 wanted z (x ∷ xs) = wanted_kind x.kind x
 
@@ -86,24 +87,24 @@ unescaped true [] = 92 ∷ []
 unescaped false (c ∷ cs) = if c == 92 then unescaped true cs else c ∷ unescaped false cs
 unescaped true (c ∷ cs) = meant c ++ unescaped false cs
 
-abbrev pub word_text : Text → FLexeme → Text
+abbrev pub word_text : TextBytes → FLexeme → TextBytes
 word_text z x = slice_range z x.from x.to
 
-abbrev pub content_of : Text → FKind → FLexeme → Text
+abbrev pub content_of : TextBytes → FKind → FLexeme → TextBytes
 content_of z kind.Str x = encode_utf8_all (unescaped false (chars (slice_range z (x.from + 1) (x.to - 1))))
 content_of z _ x = word_text z x
 
 -- the text that a word or a string stands for
-abbrev pub content : Text → FLexeme → Text
+abbrev pub content : TextBytes → FLexeme → TextBytes
 content z x = content_of z x.kind x
 
-abbrev pub has_bad_star : Text → Bool
+abbrev pub has_bad_star : TextBytes → Bool
 has_bad_star text = is_some (first_bad_star text)
 
-abbrev pub piece : ℕ → Text → FRaw
+abbrev pub piece : ℕ → TextBytes → FRaw
 piece at text = tree.Literal (record { at = at; text = text })
 
-unfoldable pub literal : Text → FLexeme → Outcome FRaw
+unfoldable pub literal : TextBytes → FLexeme → Outcome FRaw
 literal z x = if has_bad_star (content z x) then refused BAD_STAR x.from else Ok (piece x.from (content z x))
 
 abbrev pub is_word : FKind → Bool
@@ -111,11 +112,11 @@ is_word kind.Word = true
 is_word _ = false
 
 -- the word `*`
-abbrev pub is_all : Text → FLexeme → Bool
+abbrev pub is_all : TextBytes → FLexeme → Bool
 is_all z x = is_word x.kind && bytes_eq (word_text z x) (codes "*")
 
 -- a literal or the word `*`
-unfoldable pub leaf : Text → FLexeme → Outcome FRaw
+unfoldable pub leaf : TextBytes → FLexeme → Outcome FRaw
 leaf z x = if is_all z x then Ok (tree.All x.from) else literal z x
 
 -- ---- the list of an operator
@@ -126,18 +127,18 @@ nothing = record { operands = []; given = nothing_given }
 abbrev pub with_operand : Found → FRaw → Found
 with_operand f t = record f { operands = f.operands ++ t ∷ [] }
 
-abbrev pub parameter_by : Option Parameter → Text → Given → FLexeme → List FLexeme → Outcome Given
+abbrev pub parameter_by : Option Parameter → TextBytes → Given → FLexeme → List FLexeme → Outcome Given
 parameter_by (Some parameter.OtherBoost) z g x xs = refused OTHER_BOOST x.from
 parameter_by p z g x xs = do
   v ← wanted z xs
   with_value p (content z v) x.from g
 
 -- what was given, with the parameter whose name is `x` and whose value the lexemes begin with
-unfoldable pub with_parameter : Text → Operator → Given → FLexeme → List FLexeme → Outcome Given
+unfoldable pub with_parameter : TextBytes → Operator → Given → FLexeme → List FLexeme → Outcome Given
 with_parameter z op g x xs = parameter_by (named (word_text z x) (parameters op)) z g x xs
 
 -- an operand where only literals may stand
-abbrev pub literal_only : Text → Role → FLexeme → Outcome FRaw
+abbrev pub literal_only : TextBytes → Role → FLexeme → Outcome FRaw
 literal_only z role.Operator x = refused UNEXPECTED x.from
 literal_only z role.Scope x = refused UNEXPECTED x.from
 literal_only z _ x = literal z x
@@ -155,33 +156,33 @@ unknown_or_extra None = UNKNOWN_OPERATOR
 unknown_or_extra (Some op) = EXTRA_ARGUMENT
 
 -- The code of one operand too many. Where an operator may stand, an unknown one has the lower code.
-abbrev pub extra_code : Text → Bool → Role → FLexeme → ℕ
+abbrev pub extra_code : TextBytes → Bool → Role → FLexeme → ℕ
 extra_code z false role.Operator x = unknown_or_extra (operator_of (word_text z x))
 extra_code z _ _ x = EXTRA_ARGUMENT
 
 -- the operand that the lexemes begin with, of which the first is `x`
-unfoldable pub operand : Reader → Text → Operator → Role → FLexeme → List FLexeme → Read
+unfoldable pub operand : Reader → TextBytes → Operator → Role → FLexeme → List FLexeme → Read
 operand inner z op r x xs =
     if (operands_of op).literals then (do
       t ← literal_only z r x
       Ok (t, behind xs))
     else inner xs
 
-unfoldable pub with_next_operand : Reader → Text → Operator → Found → Role → FLexeme → List FLexeme → Outcome (Found × List FLexeme)
+unfoldable pub with_next_operand : Reader → TextBytes → Operator → Found → Role → FLexeme → List FLexeme → Outcome (Found × List FLexeme)
 with_next_operand inner z op f r x xs =
     if is_full op f.operands then refused (extra_code z (operands_of op).literals r x) x.from
     else (do
       t ← operand inner z op r x xs
       Ok (with_operand f t.0, t.1))
 
-abbrev pub entry_by : Reader → Text → Operator → Found → Role → FLexeme → List FLexeme → Outcome (Found × List FLexeme)
+abbrev pub entry_by : Reader → TextBytes → Operator → Found → Role → FLexeme → List FLexeme → Outcome (Found × List FLexeme)
 entry_by inner z op f role.Parameter x xs = do
   g ← with_parameter z op f.given x (behind (behind xs))
   Ok (record f { given = g }, behind (behind (behind xs)))
 entry_by inner z op f r x xs = with_next_operand inner z op f r x xs
 
 -- a parameter or an operand
-unfoldable pub entry : Reader → Text → Operator → Found → List FLexeme → Outcome (Found × List FLexeme)
+unfoldable pub entry : Reader → TextBytes → Operator → Found → List FLexeme → Outcome (Found × List FLexeme)
 entry inner z op f xs = do
   x ← wanted z xs
   entry_by inner z op f (role_of x (behind xs)) x xs
@@ -192,7 +193,7 @@ separator_kind kind.RightParen at = Ok (Some at)
 separator_kind _ at = refused UNEXPECTED at
 
 -- what stands behind an entry: a comma, or `)` and its place
-abbrev pub separator : Text → List FLexeme → Outcome (Option ℕ)
+abbrev pub separator : TextBytes → List FLexeme → Outcome (Option ℕ)
 separator z [] = refused UNCLOSED_PAREN (length z)
 separator z (x ∷ xs) = separator_kind x.kind x.from
 
@@ -206,7 +207,7 @@ ended_or None f xs more = more
 
 -- The entries of a list that the lexemes begin with, after those found. The number bounds the turns: each takes a lexeme, so one more
 -- than there are lexemes is enough.
-unfoldable pub entries : Reader → ℕ → Text → Operator → Found → List FLexeme → Outcome Listed
+unfoldable pub entries : Reader → ℕ → TextBytes → Operator → Found → List FLexeme → Outcome Listed
 entries inner zero z op f xs = refused UNEXPECTED (first_at xs)
 entries inner (suc turns) z op f xs = do
   e ← entry inner z op f xs
@@ -220,7 +221,7 @@ completed op f at = if nat_lt (length f.operands) (operands_of op).least then re
 -- ---- expressions
 
 -- an operator whose word is `x`; its `(` comes first and opens a level, which `inner` reads
-abbrev pub applied : Option Reader → Text → Option Operator → FLexeme → List FLexeme → Read
+abbrev pub applied : Option Reader → TextBytes → Option Operator → FLexeme → List FLexeme → Read
 applied inner z None x xs = refused UNKNOWN_OPERATOR x.from
 applied None z (Some op) x xs = refused TOO_DEEP (first_at xs)
 applied (Some inner) z (Some op) x xs = do
@@ -229,39 +230,39 @@ applied (Some inner) z (Some op) x xs = do
   Ok (tree.Apply x.from o l.0.operands, l.2)
 
 -- a scope whose name is `x`; its `:` comes first and opens a level
-abbrev pub scoped : Option Reader → Text → FLexeme → List FLexeme → Read
+abbrev pub scoped : Option Reader → TextBytes → FLexeme → List FLexeme → Read
 scoped None z x xs = refused TOO_DEEP (first_at xs)
 scoped (Some inner) z x xs = do
   t ← inner (behind xs)
   Ok (tree.Scope x.from (word_text z x) t.0, t.1)
 
-abbrev pub leaf_before : Text → FLexeme → List FLexeme → Read
+abbrev pub leaf_before : TextBytes → FLexeme → List FLexeme → Read
 leaf_before z x xs = do
   t ← leaf z x
   Ok (t, xs)
 
 -- a name is a word that begins with a letter
-abbrev pub scope_or_leaf : Option Reader → Text → FLexeme → List FLexeme → Read
+abbrev pub scope_or_leaf : Option Reader → TextBytes → FLexeme → List FLexeme → Read
 scope_or_leaf inner z x xs = if is_ascii_alphabetic (slice_index z x.from) then scoped inner z x xs else leaf_before z x xs
 
-abbrev pub begun : Option Reader → Text → Role → FLexeme → List FLexeme → Read
+abbrev pub begun : Option Reader → TextBytes → Role → FLexeme → List FLexeme → Read
 begun inner z role.Operator x xs = applied inner z (operator_of (word_text z x)) x xs
 begun inner z role.Scope x xs = scope_or_leaf inner z x xs
 begun inner z _ x xs = leaf_before z x xs
 
 -- the expression that lexemes begin with; `inner` reads what stands a level deeper, where one may be opened
-unfoldable pub expression_over : Option Reader → Text → Reader
+unfoldable pub expression_over : Option Reader → TextBytes → Reader
 expression_over inner z xs = do
   x ← wanted z xs
   begun inner z (role_of x (behind xs)) x (behind xs)
 
 -- what reads a level deeper, where so many levels may still be opened
-unfoldable pub deeper : ℕ → Text → Option Reader
+unfoldable pub deeper : ℕ → TextBytes → Option Reader
 deeper zero z = None
 deeper (suc levels) z = Some (expression_over (deeper levels z) z)
 
 -- the expression that lexemes begin with, where so many levels may be opened
-abbrev pub expression : ℕ → Text → Reader
+abbrev pub expression : ℕ → TextBytes → Reader
 expression levels z = expression_over (deeper levels z) z
 
 -- ---- the text
@@ -271,12 +272,12 @@ abbrev pub alone : FRaw → List FLexeme → Outcome FRaw
 alone t [] = Ok t
 alone t (x ∷ xs) = refused UNEXPECTED x.from
 
-unfoldable pub whole_of : Text → List FLexeme → Outcome FRaw
+unfoldable pub whole_of : TextBytes → List FLexeme → Outcome FRaw
 whole_of z [] = refused EMPTY_QUERY 0
 whole_of z (x ∷ xs) = do
-  t ← expression MAX_LEVELS z (x ∷ xs)
+  t ← expression most_levels z (x ∷ xs)
   alone t.0 t.1
 
 -- the tree of a text, or its first fault: of its lexemes, and then of their order
-unfoldable pub read_of : Text → Outcome FRaw
+unfoldable pub read_of : TextBytes → Outcome FRaw
 read_of z = fql_lexemes_of z >>= whole_of z

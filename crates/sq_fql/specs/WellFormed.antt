@@ -2,10 +2,10 @@
 use Rattle.std.specs.Prelude.{◌≡◌, ℕ, suc, ◌+◌, ◌≤◌, ◌<◌, Bool, true, false, length, slice_index, unsigned_abs, None, IfSome}
 use Rattle.std.specs.Char.{is_ascii_alphabetic}
 use Rattle.std.specs.List.{list_all}
+use Rattle.sq_base.specs.Limits.{greatest_distance, greatest_boost, xrank_bound}
 use Rattle.sq_tokens.specs.Pattern.{first_bad_star}
 use Rattle.sq_lex.specs.declared.class.Class.TheVariants as class
-use Rattle.sq_lex.specs.Bytes.{Text, is_in}
-use Rattle.sq_fql.specs.declared.codes.TheConstants.{MAX_BOOST, MAX_COUNT, MAX_NEAR, NEAR}
+use Rattle.sq_lex.specs.Bytes.{TextBytes, is_in}
 use Rattle.sq_fql.specs.declared.raw.Mode.{Mode}
 use Rattle.sq_fql.specs.declared.raw.Mode.TheVariants as mode
 use Rattle.sq_fql.specs.declared.raw.Op.{Op}
@@ -15,6 +15,7 @@ use Rattle.sq_fql.specs.declared.operator.Operator.{Operator}
 use Rattle.sq_fql.specs.declared.operator.Operator.TheVariants as operator
 use Rattle.sq_fql.specs.declared.operator.Arity.{Arity}
 use Rattle.sq_fql.specs.Operators.{operands_of}
+use Rattle.sq_fql.specs.Limits.{fql_byte_bound, greatest_count, fql_distance}
 
 -- the operator without its parameters
 abbrev pub operator_in : Op → Operator
@@ -40,21 +41,21 @@ operator_in (op.Xrank cb) = operator.Xrank
 
 -- the distance of a string, which is the default where its mode has none
 abbrev pub IsDistance : Mode → ℕ → Type 0
-IsDistance mode.Near n = n ≤ MAX_NEAR
-IsDistance mode.Onear n = n ≤ MAX_NEAR
-IsDistance _ n = n ≡ NEAR
+IsDistance mode.Near n = n ≤ greatest_distance
+IsDistance mode.Onear n = n ≤ greatest_distance
+IsDistance _ n = n ≡ fql_distance
 
 -- each parameter is within its limit
 abbrev pub IsWithinLimits : Op → Type 0
-IsWithinLimits (op.Near n) = n ≤ MAX_NEAR
-IsWithinLimits (op.Onear n) = n ≤ MAX_NEAR
-IsWithinLimits (op.Count from to) = (from ≤ MAX_COUNT) × IfSome to (λ n. n ≤ MAX_COUNT)
+IsWithinLimits (op.Near n) = n ≤ greatest_distance
+IsWithinLimits (op.Onear n) = n ≤ greatest_distance
+IsWithinLimits (op.Count from to) = (from ≤ greatest_count) × IfSome to (λ n. n ≤ greatest_count)
 IsWithinLimits (op.Str m n) = IsDistance m n
-IsWithinLimits (op.Xrank cb) = unsigned_abs cb ≤ MAX_BOOST
+IsWithinLimits (op.Xrank cb) = unsigned_abs cb ≤ greatest_boost
 IsWithinLimits _ = Unit {0}
 
 -- one word that begins with a letter
-pub record IsName (name : Text) : Type 0 where
+pub record IsName (name : TextBytes) : Type 0 where
   pub letter : is_ascii_alphabetic (slice_index name 0) ≡ true
   pub word : list_all (is_in class.Term) name ≡ true
 
@@ -118,5 +119,5 @@ abbrev mutual
 
 pub record IsWellFormed (t : FRaw) : Type 0 where
   pub form : HasForm t
-  pub few_bytes : bytes t < 100_000_000
-  pub few_xranks : xranks t < 1_000_000
+  pub few_bytes : bytes t < fql_byte_bound
+  pub few_xranks : xranks t < xrank_bound

@@ -4,6 +4,7 @@
 mod codes;
 mod content;
 mod fault;
+mod limits;
 mod look;
 mod number;
 mod operator;
@@ -13,6 +14,7 @@ mod print_laws;
 mod raw;
 mod read;
 
+pub use limits::FQL_DISTANCE;
 pub use print::print_fql;
 pub use print_laws::canonical_texts_read_back;
 pub use raw::{FPiece, FRaw, Mode, Op};

@@ -4,12 +4,13 @@ ghost use Rattle.std.specs.Prelude.{◌≡◌};
 ghost use Rattle.sq_fql.specs.Operators as table;
 ghost use Rattle.sq_fql.specs.Parameters as spec;
 
-use crate::codes::{BAD_PARAMETER, MAX_BOOST, MAX_COUNT, MAX_NEAR, MISSING_ARGUMENT, NEAR};
+use crate::codes::{BAD_PARAMETER, MISSING_ARGUMENT};
 use crate::fault::refused;
+use crate::limits::{FQL_DISTANCE, GREATEST_COUNT};
 use crate::number::{natural, whole};
 use crate::operator::{Operator, same_word};
 use crate::raw::{Mode, Op};
-use sq_base::QueryFault;
+use sq_base::{GREATEST_BOOST, GREATEST_DISTANCE, QueryFault};
 
 /// A parameter by its operator and its name.
 #[derive(Clone, Copy, Debug, PartialEq, Eq)]
@@ -207,14 +208,14 @@ fn setting_of(parameter: Parameter, value: &[u8]) -> Option<Setting>
     ensures { result ≡ spec.setting_of parameter value.now }
 {
     match parameter {
-        Parameter::Distance => Some(Setting::N(natural(value, MAX_NEAR)?)),
-        Parameter::From => Some(Setting::From(natural(value, MAX_COUNT)?)),
-        Parameter::To => Some(Setting::To(natural(value, MAX_COUNT)?)),
+        Parameter::Distance => Some(Setting::N(natural(value, GREATEST_DISTANCE)?)),
+        Parameter::From => Some(Setting::From(natural(value, GREATEST_COUNT)?)),
+        Parameter::To => Some(Setting::To(natural(value, GREATEST_COUNT)?)),
         Parameter::Lower => Some(Setting::Above(lower_of(value)?)),
         Parameter::Upper => Some(Setting::Below(upper_of(value)?)),
         Parameter::ModeName => Some(Setting::Mode(mode_of(value)?)),
-        Parameter::Cb => Some(Setting::Cb(whole(value, MAX_BOOST)?)),
-        Parameter::Sample => Some(Setting::N(natural(value, MAX_BOOST)?)),
+        Parameter::Cb => Some(Setting::Cb(whole(value, GREATEST_BOOST)?)),
+        Parameter::Sample => Some(Setting::N(natural(value, GREATEST_BOOST)?)),
         Parameter::OtherBoost => None,
     }
 }
@@ -273,7 +274,7 @@ fn distance(given: Given) -> u32
 {
     match given.n {
         Some(number) => number.value,
-        None => NEAR,
+        None => FQL_DISTANCE,
     }
 }
 
@@ -288,7 +289,10 @@ fn string_operation(mode: Mode, given: Given) -> Result<Op, QueryFault>
         }),
         Mode::Phrase | Mode::And | Mode::Or | Mode::Any => match given.n {
             Some(number) => Err(refused(BAD_PARAMETER, number.at)),
-            None => Ok(Op::Str { mode, n: NEAR }),
+            None => Ok(Op::Str {
+                mode,
+                n: FQL_DISTANCE,
+            }),
         },
     }
 }

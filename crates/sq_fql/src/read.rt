@@ -10,7 +10,7 @@ ghost use Rattle.sq_fql.specs.Read as spec;
 ghost use Rattle.sq_fql.specs.WellFormed.{IsWellFormed};
 
 use crate::codes::{
-    EMPTY_QUERY, EXTRA_ARGUMENT, MAX_LEVELS, MISSING_ARGUMENT, OTHER_BOOST, TOO_DEEP, UNEXPECTED,
+    EMPTY_QUERY, EXTRA_ARGUMENT, MISSING_ARGUMENT, OTHER_BOOST, TOO_DEEP, UNEXPECTED,
     UNKNOWN_OPERATOR,
 };
 use crate::content::{content, leaf, literal, word_bytes, word_text};
@@ -20,7 +20,7 @@ use crate::operator::{Operator, operands_of, operator_of};
 use crate::parameter::{Given, Parameter, nothing_given, operation, parameter_named, with_value};
 use crate::raw::{FRaw, Op};
 use sq_base::{Fault, List, QueryFault};
-use sq_lex::{FLexeme, fql_lexemes, fql_lexemes_are_sound};
+use sq_lex::{FLexeme, MOST_LEVELS, fql_lexemes, fql_lexemes_are_sound};
 use sqlite_items::Boxed;
 use std::alloc::{AllocError, Global};
 
@@ -366,7 +366,7 @@ fn whole_of(alloc: Global, text: &str, lexemes: &[FLexeme]) -> Result<FRaw, Faul
     if lexemes.is_empty() {
         return Err(Fault::Query(refused(EMPTY_QUERY, 0)));
     }
-    let (tree, rest) = expression(alloc, text, MAX_LEVELS, lexemes)?;
+    let (tree, rest) = expression(alloc, text, MOST_LEVELS, lexemes)?;
     match rest {
         [] => Ok(tree),
         [lexeme, ..] => Err(Fault::Query(refused(UNEXPECTED, lexeme.from))),

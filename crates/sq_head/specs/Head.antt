@@ -116,13 +116,17 @@ Parts = (List LineEnd × (List ℕ × (List ℕ × (ℕ × LineEnd)))) × (List 
 abbrev pub head_by : Parts → Head
 head_by p = record { method = p.0.1.0; target = p.0.1.1.0; minor = p.0.1.1.1.0; fields = map name_and_value p.1.0 }
 
--- nothing may stand behind the head, and it has at most 64 fields
+-- the fields of a head
+abbrev pub most_fields : ℕ
+most_fields = 64
+
+-- nothing may stand behind the head, and it has not too many fields
 abbrev pub whole : Reading Parts → Option Head
 whole None = None
-whole (Some (p, [])) = if nat_le (length p.1.0) 64 then Some (head_by p) else None
+whole (Some (p, [])) = if nat_le (length p.1.0) most_fields then Some (head_by p) else None
 whole (Some (p, (b ∷ rest))) = None
 
--- the head that the bytes are, whole, with at most 64 fields
+-- the head that the bytes are, whole, without too many fields
 unfoldable pub head_of : List ℕ → Option Head
 head_of bytes = whole (followed (start_line bytes) (λ rest. section (suc (length rest)) rest))
 
@@ -130,11 +134,11 @@ head_of bytes = whole (followed (start_line bytes) (λ rest. section (suc (lengt
 abbrev pub kept_of : RequestHead → Head
 kept_of h = record { method = h.method; target = h.target; minor = h.minor; fields = map name_and_value h.fields }
 
--- the bytes are, whole, a head of the grammar with at most 64 fields
+-- the bytes are, whole, a head of the grammar without too many fields
 pub record IsHead (bytes : List ℕ) (head : Head) : Type 0 where
   pub tree : RequestHead
   pub reads : ReadsRequest bytes tree []
-  pub few : length tree.fields ≤ 64
+  pub few : length tree.fields ≤ most_fields
   pub parts : head ≡ kept_of tree
 
 -- `head_of` gives a head exactly where the bytes are one of the grammar, and that one

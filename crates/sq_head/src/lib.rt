@@ -6,4 +6,4 @@ mod law;
 mod parts;
 
 pub use law::heads_are_of_the_grammar;
-pub use parts::{MAX_FIELDS, parts_of};
+pub use parts::{MOST_FIELDS, parts_of};

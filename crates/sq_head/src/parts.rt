@@ -8,15 +8,15 @@ use httparse::Status;
 use httparse::spans::{HeaderSpan, RequestSpans, parse_request};
 
 /// How many fields a head may have.
-pub const MAX_FIELDS: usize = 64;
+pub const MOST_FIELDS: usize = 64;
 
 /// Where the parts of a head stand, in bytes from its front, if the bytes are one, whole, with at most
-/// `MAX_FIELDS` fields. The spans of its fields are written to the front of `headers`, as many as the
+/// `MOST_FIELDS` fields. The spans of its fields are written to the front of `headers`, as many as the
 /// answer's `headers` counts.
 ///
 /// A head that isn't whole, one with bytes behind it and one with more fields are none. It takes no
 /// memory.
-pub fn parts_of(head: &[u8], headers: &mut [HeaderSpan; MAX_FIELDS]) -> Option<RequestSpans>
+pub fn parts_of(head: &[u8], headers: &mut [HeaderSpan; MOST_FIELDS]) -> Option<RequestSpans>
     ensures head { MatchOption result (head_of head.now ≡ None)
         (λ spans. head_of head.now ≡ Some (head_at head.now headers.new spans)) }
     ensures within { IfSome result (IsRequestWithin head.now headers.new) }

@@ -1,4 +1,4 @@
--- What is public: `Cut`, `Owed`, `Replies`, `Served`, `Handles` and `Alike`. The others are of the calls inside.
+-- What is public: `Cut`, `Limits`, `Owed`, `Replies`, `Served`, `Handles` and `Alike`. The others are of the calls inside.
 pub mod Alike
 pub mod Body
 pub mod Cut
@@ -8,6 +8,7 @@ pub mod Gathers
 pub mod Handles
 pub mod Heading
 pub mod Judge
+pub mod Limits
 pub mod Owed
 pub mod Replies
 pub mod Served

@@ -5,8 +5,10 @@ use Rattle.std.specs.List.{list_all, list_any}
 use Rattle.std.specs.Char.{is_ascii_digit, to_ascii_lowercase}
 use Rattle.std.specs.Str.{bytes_eq}
 use Rattle.std.specs.Str.Parse.{digits_value}
+use Rattle.sq_base.specs.Limits.{most_digits, most_packet_bytes}
 use Rattle.httparse.specs.Grammar.{trim_ows}
 use Rattle.sq_http.specs.Cut.{Cut, Waiting, TooLong, Whole, cut}
+use Rattle.sq_http.specs.Limits.{most_requests}
 use Rattle.sq_head.specs.Head.{Head, head_of}
 
 -- one text that is owed: the interim text, a refusal with its status, or the reply to a caller and a body
@@ -48,14 +50,14 @@ expects head = (head.minor == 1) && list_any (is_word (codes "100-continue")) (v
 
 -- one to ten digits
 abbrev pub is_length : List ℕ → Bool
-is_length value = nat_lt 0 (length value) && nat_le (length value) 10 && list_all is_ascii_digit value
+is_length value = nat_lt 0 (length value) && nat_le (length value) most_digits && list_all is_ascii_digit value
 
 -- the length of the body by the Content-Length fields, or the status of its refusal: two fields, or one that is no length, are 400, and more than
 -- 131,072 bytes are 413
 abbrev pub length_of : List (List ℕ) → Result ℕ ℕ
 length_of [] = Ok 0
 length_of (value ∷ []) =
-    if is_length value then (if nat_le (digits_value 10 value) 131_072 then Ok (digits_value 10 value) else Err 413) else Err 400
+    if is_length value then (if nat_le (digits_value 10 value) most_packet_bytes then Ok (digits_value 10 value) else Err 413) else Err 400
 length_of (value ∷ (other ∷ more)) = Err 400
 
 -- who asks, or the status of a refusal and whether it closes
@@ -160,6 +162,6 @@ abbrev pub owed_from : ℕ → List ℕ → List Owed
 owed_from zero bytes = []
 owed_from (suc left) bytes = after (step (left == 0) bytes) (owed_from left)
 
--- what a connection owes for all its bytes; 1,000 requests are answered
+-- what a connection owes for all its bytes; so many requests are answered
 abbrev pub owed : List ℕ → List Owed
-owed bytes = owed_from 1_000 bytes
+owed bytes = owed_from most_requests bytes

@@ -1,5 +1,6 @@
 //! The last reply to a request.
 ghost use Rattle.std.specs.Prelude.{◌≡◌, ◌≤◌, ℕ, ℤ, Bool, List, [], Option, Err, IfOk, length, decimal, string_bytes};
+ghost use Rattle.sq_base.specs.Limits.{most_packet_bytes};
 ghost use Rattle.sq_http.specs.Exchange.{RepliesTo, told_of};
 ghost use Rattle.sq_http.specs.Handles.{Handles};
 ghost use Rattle.sq_http.specs.Owed.{Refusal, Asking};
@@ -36,7 +37,7 @@ pub trait Handler {
         now: i64,
         body: &[u8],
     ) -> Result<Vec<u8>, Handled>
-        requires { length body.now ≤ 131072 }
+        requires { length body.now ≤ most_packet_bytes }
         ensures { Handles (reply self.now now caller.now body.now) result };
 }
 
@@ -101,7 +102,7 @@ pub fn answered<W: Wire, H: Handler>(
     body: &[u8],
     closing: bool,
 ) -> Result<bool, Ended>
-    requires { length body.now ≤ 131072 }
+    requires { length body.now ≤ most_packet_bytes }
     ensures { RepliesTo W.Wire (H.reply responder.now.handler.now responder.now.moment)
         (Asking caller.now body.now closing) wire.old wire.new result }
 {

@@ -1,5 +1,6 @@
 //! A request whose head has come: its interim text, its body and its last reply.
 ghost use Rattle.std.specs.Prelude.{◌≡◌, ◌≤◌, ◌++◌, length, take, drop, false};
+ghost use Rattle.sq_base.specs.Limits.{most_packet_bytes};
 ghost use Rattle.sq_http.specs.Body.{body_step, request_seen};
 ghost use Rattle.sq_http.specs.Exchange.{ExchangeBy, RepliesTo};
 ghost use Rattle.sq_http.specs.Gathers.{held, room};
@@ -19,7 +20,7 @@ fn reply_to<W: Wire, H: Handler>(
     job: &Job,
     body: &[u8],
 ) -> Result<bool, Ended>
-    requires { length body.now ≤ 131072 }
+    requires { length body.now ≤ most_packet_bytes }
     ensures { RepliesTo W.Wire (H.reply responder.now.handler.now responder.now.moment)
         (answer_to (request_seen job.now.request) job.now.last body.now) wire.old wire.new result }
 {
@@ -48,8 +49,8 @@ fn take_body<W: Wire, H: Handler>(
     front: &[u8],
     bodies: &mut Buffer,
 ) -> Result<bool, Ended>
-    requires size { job.now.size ≤ 131072 }
-    requires room { room bodies.old ≡ 131072 }
+    requires size { job.now.size ≤ most_packet_bytes }
+    requires room { room bodies.old ≡ most_packet_bytes }
     ensures exchange { ExchangeBy W.Wire (H.reply responder.now.handler.now responder.now.moment)
         (λ more. body_step false job.now.size (request_seen job.now.request) job.now.last (front.now ++ more))
         (drop job.now.size front.now) wire.old wire.new result }
@@ -73,8 +74,8 @@ pub fn take_request<W: Wire, H: Handler>(
     front: &[u8],
     bodies: &mut Buffer,
 ) -> Result<bool, Ended>
-    requires size { job.now.size ≤ 131072 }
-    requires room { room bodies.old ≡ 131072 }
+    requires size { job.now.size ≤ most_packet_bytes }
+    requires room { room bodies.old ≡ most_packet_bytes }
     ensures exchange { ExchangeBy W.Wire (H.reply responder.now.handler.now responder.now.moment)
         (λ more. body_step job.now.interim job.now.size (request_seen job.now.request) job.now.last (front.now ++ more))
         (drop job.now.size front.now) wire.old wire.new result }

@@ -1,9 +1,11 @@
 //! One request of a connection, from its head to its last reply.
-ghost use Rattle.std.specs.Prelude.{◌≡◌, ◌≤◌, ◌++◌, length, take, drop};
+ghost use Rattle.std.specs.Prelude.{◌≡◌, ◌≤◌, ◌+◌, ◌++◌, length, take, drop};
+ghost use Rattle.sq_base.specs.Limits.{most_packet_bytes};
 ghost use Rattle.sq_head.specs.Head.{head_of};
 ghost use Rattle.sq_http.specs.Exchange.{Exchange, ExchangeBy};
 ghost use Rattle.sq_http.specs.Gathers.{held, room};
 ghost use Rattle.sq_http.specs.Owed.{judged, step_judged};
+ghost use Rattle.sq_http.specs.Limits.{most_head_bytes};
 
 use crate::answer::{Handler, Responder, refused};
 use crate::body::take_request;
@@ -23,7 +25,7 @@ fn with_head<W: Wire, H: Handler>(
     bodies: &mut Buffer,
 ) -> Result<bool, Ended>
     requires size { size ≤ length (held heads.old) }
-    requires room { room bodies.old ≡ 131072 }
+    requires room { room bodies.old ≡ most_packet_bytes }
     ensures exchange { ExchangeBy W.Wire (H.reply responder.now.handler.now responder.now.moment)
         (λ more. step_judged last (judged (head_of (take size (held heads.old)))) (drop size (held heads.old) ++ more))
         (held heads.new) wire.old wire.new result }
@@ -56,8 +58,8 @@ pub fn exchange<W: Wire, H: Handler>(
     heads: &mut Buffer,
     bodies: &mut Buffer,
 ) -> Result<bool, Ended>
-    requires heads { room heads.old ≡ 8193 }
-    requires bodies { room bodies.old ≡ 131072 }
+    requires heads { room heads.old ≡ most_head_bytes + 1 }
+    requires bodies { room bodies.old ≡ most_packet_bytes }
     ensures exchange { Exchange W.Wire (H.reply responder.now.handler.now responder.now.moment) last
         (held heads.old) (held heads.new) wire.old wire.new result }
     ensures heads { room heads.new ≡ room heads.old }

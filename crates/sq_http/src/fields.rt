@@ -9,9 +9,7 @@ ghost use Rattle.sq_http.specs.Owed as spec;
 
 use httparse::is_space_or_tab;
 use httparse::spans::HeaderSpan;
-
-/// How many digits the length of a body may have.
-const MAX_DIGITS: usize = 10;
+use sq_base::MOST_DIGITS;
 
 /// A text without the spaces and tabs at its front.
 fn trim_start(mut s: &[u8]) -> &[u8]
@@ -166,7 +164,7 @@ pub fn any_expects(head: &[u8], headers: &[HeaderSpan]) -> bool
 pub fn number_of(value: &[u8]) -> Option<usize>
     ensures { result ≡ (if spec.is_length value.now then Some (digits_value 10 value.now) else None) }
 {
-    if value.is_empty() || value.len() > MAX_DIGITS {
+    if value.is_empty() || value.len() > MOST_DIGITS {
         return None;
     }
     let mut number = 0;

@@ -1,5 +1,6 @@
 //! What a head asks for.
 ghost use Rattle.std.specs.Prelude.{◌≡◌, ◌≤◌, All, IfOk, ℕ, Some, length, codes};
+ghost use Rattle.sq_base.specs.Limits.{most_packet_bytes};
 ghost use Rattle.httparse.specs.Spans.{IsHeaderWithin};
 ghost use Rattle.sq_head.specs.Head.{head_of};
 ghost use Rattle.sq_http.specs.Body.{request_seen};
@@ -8,10 +9,10 @@ ghost use Rattle.sq_http.specs.Judge.{judged_seen, head_by};
 ghost use Rattle.sq_http.specs.Owed.{judged, length_of, by_caller, request_of};
 
 use crate::fields::{any_closes, any_expects, next_value, number_of};
-use crate::limits::BODY_LIMIT;
 use http::StatusCode;
 use httparse::spans::{EMPTY_HEADER_SPAN, HeaderSpan};
-use sq_head::{MAX_FIELDS, parts_of};
+use sq_base::MOST_PACKET_BYTES;
+use sq_head::{MOST_FIELDS, parts_of};
 
 /// The name of who asks, or the status of a refusal and whether it closes the connection.
 #[derive(Clone, Copy)]
@@ -36,7 +37,7 @@ pub struct Job<'x> {
 fn length_of(head: &[u8], headers: &[HeaderSpan]) -> Result<usize, StatusCode>
     requires { All (IsHeaderWithin (length head.now)) headers.now }
     ensures length { length_of (values_at (codes "content-length") head.now headers.now) ≡ result }
-    ensures size { IfOk result (λ size. size ≤ 131072) }
+    ensures size { IfOk result (λ size. size ≤ most_packet_bytes) }
 {
     match next_value(head, headers, 0, b"content-length") {
         None => Ok(0),
@@ -44,7 +45,7 @@ fn length_of(head: &[u8], headers: &[HeaderSpan]) -> Result<usize, StatusCode>
             None => match number_of(value) {
                 None => Err(StatusCode::BAD_REQUEST),
                 Some(size) => {
-                    if size <= BODY_LIMIT {
+                    if size <= MOST_PACKET_BYTES {
                         Ok(size)
                     } else {
                         Err(StatusCode::PAYLOAD_TOO_LARGE)
@@ -108,7 +109,7 @@ fn judge_parts<'x>(
     requires { All (IsHeaderWithin (length head.now)) headers.now }
     ensures judged { judged (Some (head_by method.now target.now minor head.now headers.now))
         ≡ judged_seen result }
-    ensures size { IfOk result (λ job. job.size ≤ 131072) }
+    ensures size { IfOk result (λ job. job.size ≤ most_packet_bytes) }
 {
     match next_value(head, headers, 0, b"transfer-encoding") {
         Some(_) => Err(StatusCode::NOT_IMPLEMENTED),
@@ -133,9 +134,9 @@ fn judge_parts<'x>(
 #[tactic(auto, unfolding(crate::specs::Owed::judged))]
 pub fn judge<'x>(head: &'x [u8]) -> Result<Job<'x>, StatusCode>
     ensures judged { judged (head_of head.now) ≡ judged_seen result }
-    ensures size { IfOk result (λ job. job.size ≤ 131072) }
+    ensures size { IfOk result (λ job. job.size ≤ most_packet_bytes) }
 {
-    let mut headers = [EMPTY_HEADER_SPAN; MAX_FIELDS];
+    let mut headers = [EMPTY_HEADER_SPAN; MOST_FIELDS];
     match parts_of(head, &mut headers) {
         None => Err(StatusCode::BAD_REQUEST),
         Some(spans) => judge_parts(

@@ -20,5 +20,5 @@ mod serve;
 
 pub use answer::{Handled, Handler};
 pub use law::equal_answers_give_equal_replies;
-pub use limits::{BODY_LIMIT, HEAD_LIMIT, REQUEST_LIMIT};
+pub use limits::{MOST_HEAD_BYTES, MOST_REQUESTS};
 pub use serve::serve_connection;

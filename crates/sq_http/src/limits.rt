@@ -1,10 +1,7 @@
 //! The limits of a connection.
 
 /// How many bytes a head may have, with the empty line that ends it.
-pub const HEAD_LIMIT: usize = 8192;
-
-/// How many bytes a body may have.
-pub const BODY_LIMIT: usize = 131072;
+pub const MOST_HEAD_BYTES: usize = 8_192;
 
 /// How many requests are answered on one connection.
-pub const REQUEST_LIMIT: u32 = 1000;
+pub const MOST_REQUESTS: u32 = 1_000;

@@ -5,10 +5,11 @@ ghost use Rattle.sq_base.specs.Causes.{HasCause};
 ghost use Rattle.sq_http.specs.Gathers.{held, room, gains, GathersOn};
 ghost use Rattle.sq_http.specs.Cut.{cut, Waiting};
 ghost use Rattle.sq_http.specs.Heading.{IsHeading};
+ghost use Rattle.sq_http.specs.Limits.{most_head_bytes};
 
 use crate::buffer::Buffer;
 use crate::cut::head_length;
-use crate::limits::HEAD_LIMIT;
+use crate::limits::MOST_HEAD_BYTES;
 use sq_base::{Failed, Wire};
 
 /// Reads until a body of this length is held. False where the input ends before.
@@ -46,10 +47,10 @@ pub enum Heading {
 
 /// The front of the bytes in which a head has to end.
 fn front(bytes: &[u8]) -> &[u8]
-    ensures { result.now ≡ take 8192 bytes.now }
+    ensures { result.now ≡ take most_head_bytes bytes.now }
 {
-    if bytes.len() > HEAD_LIMIT {
-        &bytes[..HEAD_LIMIT]
+    if bytes.len() > MOST_HEAD_BYTES {
+        &bytes[..MOST_HEAD_BYTES]
     } else {
         bytes
     }
@@ -58,14 +59,14 @@ fn front(bytes: &[u8]) -> &[u8]
 /// Reads until a head is held, or more than one may have. It reads nothing where one is held.
 #[tactic(auto, unfolding(crate::specs::Cut::cut))]
 pub fn read_head<W: Wire>(buffer: &mut Buffer, wire: &mut W) -> Result<Heading, Failed>
-    requires room { room buffer.old ≡ 8193 }
-    requires fits { length (held buffer.old) ≤ 8193 }
+    requires room { room buffer.old ≡ most_head_bytes + 1 }
+    requires fits { length (held buffer.old) ≤ most_head_bytes + 1 }
     ensures held { held buffer.new ≡ held buffer.old ++ gains buffer.old buffer.new }
     ensures gathers { GathersOn W.Wire (λ first. cut (held buffer.old ++ first) ≡ Waiting) wire.old wire.new (gains buffer.old buffer.new) }
     ensures heading { MatchResult result (λ heading. IsHeading heading (held buffer.new) (W.left wire.new))
         (λ _. cut (held buffer.new) ≡ Waiting) }
     ensures room { room buffer.new ≡ room buffer.old }
-    ensures fits { length (held buffer.new) ≤ 8193 }
+    ensures fits { length (held buffer.new) ≤ most_head_bytes + 1 }
     ensures sent { W.sent wire.new ≡ W.sent wire.old }
     ensures cause { HasCause (W.read_faults wire.old) (W.read_faults wire.new) result }
     ensures write_faults { W.write_faults wire.new ≡ W.write_faults wire.old }
@@ -75,10 +76,10 @@ pub fn read_head<W: Wire>(buffer: &mut Buffer, wire: &mut W) -> Result<Heading, 
             Some(size) => return Ok(Heading::Whole(size)),
             None => {}
         }
-        if buffer.len() > HEAD_LIMIT {
+        if buffer.len() > MOST_HEAD_BYTES {
             return Ok(Heading::TooLong);
         }
-        let missing = HEAD_LIMIT + 1 - buffer.len();
+        let missing = MOST_HEAD_BYTES + 1 - buffer.len();
         if !buffer.fill(wire, missing)? {
             return Ok(Heading::Ended);
         }

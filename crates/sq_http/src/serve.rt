@@ -1,15 +1,17 @@
 //! A connection.
-ghost use Rattle.std.specs.Prelude.{◌≡◌, []};
+ghost use Rattle.std.specs.Prelude.{◌≡◌, ◌+◌, []};
+ghost use Rattle.sq_base.specs.Limits.{most_packet_bytes};
 ghost use Rattle.sq_http.specs.Gathers.{held, room};
 ghost use Rattle.sq_http.specs.Replies.{Answering};
 ghost use Rattle.sq_http.specs.Served.{Serves};
+ghost use Rattle.sq_http.specs.Limits.{most_head_bytes};
 
 use crate::answer::{Handler, Responder, refuse};
 use crate::buffer::Buffer;
 use crate::exchange::exchange;
-use crate::limits::{BODY_LIMIT, HEAD_LIMIT, REQUEST_LIMIT};
+use crate::limits::{MOST_HEAD_BYTES, MOST_REQUESTS};
 use http::StatusCode;
-use sq_base::{Ended, Failed, Wire};
+use sq_base::{Ended, Failed, MOST_PACKET_BYTES, Wire};
 use std::alloc::Global;
 
 /// Answers requests until the connection closes.
@@ -20,12 +22,12 @@ fn serve<W: Wire, H: Handler>(
     bodies: &mut Buffer,
 ) -> Ended
     requires empty { held heads.old ≡ [] }
-    requires heads { room heads.old ≡ 8193 }
-    requires bodies { room bodies.old ≡ 131072 }
+    requires heads { room heads.old ≡ most_head_bytes + 1 }
+    requires bodies { room bodies.old ≡ most_packet_bytes }
     ensures { Serves W.Wire (H.reply responder.now.handler.now responder.now.moment) wire.old wire.new
         result }
 {
-    let mut left = REQUEST_LIMIT;
+    let mut left = MOST_REQUESTS;
     'requests: loop {
         left -= 1;
         match exchange(responder, wire, left == 0, heads, bodies) {
@@ -46,7 +48,7 @@ fn without_buffers<W: Wire>(wire: &mut W) -> Ended
     }
 }
 
-/// Answers the requests of a connection, at most `REQUEST_LIMIT`, until it closes. `now` is the
+/// Answers the requests of a connection, at most `MOST_REQUESTS`, until it closes. `now` is the
 /// moment at which it came, in seconds since 1970-01-01T00:00:00Z.
 ///
 /// What it owes is a function of the bytes taken alone, however they are cut into reads. All that is
@@ -67,10 +69,10 @@ pub fn serve_connection<W: Wire, H: Handler>(
 ) -> Ended
     ensures { Serves W.Wire (H.reply handler.now now) wire.old wire.new result }
 {
-    let Ok(mut heads) = Buffer::new(alloc, HEAD_LIMIT + 1) else {
+    let Ok(mut heads) = Buffer::new(alloc, MOST_HEAD_BYTES + 1) else {
         return without_buffers(wire);
     };
-    let Ok(mut bodies) = Buffer::new(alloc, BODY_LIMIT) else {
+    let Ok(mut bodies) = Buffer::new(alloc, MOST_PACKET_BYTES) else {
         return without_buffers(wire);
     };
     let responder = Responder {

@@ -11,7 +11,7 @@ use Rattle.sq_lex.specs.declared.lexeme.Relation.{Relation}
 use Rattle.sq_lex.specs.declared.lexeme.KKind.{KKind}
 use Rattle.sq_lex.specs.declared.lexeme.KKind.TheVariants as kind
 use Rattle.sq_lex.specs.declared.lexeme.KLexeme.{KLexeme}
-use Rattle.sq_lex.specs.Bytes.{Text}
+use Rattle.sq_lex.specs.Bytes.{TextBytes}
 use Rattle.sq_lex.specs.Kql.{cut_text, starless, has_some, judged, lexemes_of}
 use Rattle.sq_lex.specs.Places.{Fills, UpperFills, ValuesFill, PiecesFill, IsFilled, StandBetween, LexemesAreInPlace}
 use Rattle.sq_lex.specs.Shape.{IsSound, IsSoundLexeme, IsStarless as IsStarlessCut, LexemesAreSound}
@@ -28,10 +28,10 @@ use Rattle.sq_kql.proofs.TreeLemmas.{OperandHasForm, bytes_of, nodes_of, and_for
 
 -- ---- what is known of a lexeme
 
-abbrev pub IsKept : Text → KLexeme → Type 0
+abbrev pub IsKept : TextBytes → KLexeme → Type 0
 IsKept z x = IsSoundLexeme z x × IsFilled x
 
-abbrev pub AreKept : Text → List KLexeme → Type 0
+abbrev pub AreKept : TextBytes → List KLexeme → Type 0
 AreKept z xs = AllByRecursion (IsKept z) xs
 
 both : {X : Type 0} (P Q : X → Type 0) (xs : List X) → AllByRecursion P xs → AllByRecursion Q xs → AllByRecursion (λ x. P x × Q x) xs
@@ -50,10 +50,10 @@ push_each : {X : Type 0} (P : X → Type 0) (xs : List X) (x : X) → AllByRecur
 push_each P [] x each one = (one, tt)
 push_each P (y ∷ ys) x each one = (each.0, push_each P ys x each.1 one)
 
-kind_sound : (z : Text) (x : KLexeme) (k : KKind) → x.kind ≡ k → IsKept z x → IsSound z k
+kind_sound : (z : TextBytes) (x : KLexeme) (k : KKind) → x.kind ≡ k → IsKept z x → IsSound z k
 kind_sound z x k is kept = subst (IsSound z) is kept.0
 
-kind_filled : (z : Text) (x : KLexeme) (k : KKind) → x.kind ≡ k → IsKept z x → PiecesFill x.from x.to k
+kind_filled : (z : TextBytes) (x : KLexeme) (k : KKind) → x.kind ≡ k → IsKept z x → PiecesFill x.from x.to k
 kind_filled z x k is kept = subst (PiecesFill x.from x.to) is kept.1
 
 -- ---- bytes and numbers of lexemes
@@ -106,21 +106,21 @@ filled : {X : Type 0} (xs : List X) → has_some xs ≡ true → xs ≢ []
 filled [] is none = absurd cc
 filled (x ∷ xs) is none = absurd cc
 
-starless_piece : (z : Text) (c : Cut) → IsStarlessCut z c → IsStarless (piece z c)
+starless_piece : (z : TextBytes) (c : Cut) → IsStarlessCut z c → IsStarless (piece z c)
 unfolding judged
 starless_piece z c s = (starless_ok c.from (first_bad_star (cut_text z c)) (has_some (text_tokens (without_good_star (cut_text z c)))) s.0 s.1).0
 
-pattern_piece : (z : Text) (c : Cut) → judged z c ≡ Ok true → IsPattern (piece z c)
+pattern_piece : (z : TextBytes) (c : Cut) → judged z c ≡ Ok true → IsPattern (piece z c)
 unfolding judged
 pattern_piece z c is =
     let tokens = text_tokens (without_good_star (cut_text z c)) in
     let s = starless_ok c.from (first_bad_star (cut_text z c)) (has_some tokens) true is in (s.0, filled tokens s.1)
 
-starless_upper : (z : Text) (upper : Option Cut) → IfSome upper (IsStarlessCut z) → IfSome (option_map (piece z) upper) IsStarless
+starless_upper : (z : TextBytes) (upper : Option Cut) → IfSome upper (IsStarlessCut z) → IfSome (option_map (piece z) upper) IsStarless
 starless_upper z None s = tt
 starless_upper z (Some c) s = starless_piece z c s
 
-same_some : (z : Text) (upper : Option Cut) → is_some (option_map (piece z) upper) ≡ is_some upper
+same_some : (z : TextBytes) (upper : Option Cut) → is_some (option_map (piece z) upper) ≡ is_some upper
 same_some z None = refl
 same_some z (Some c) = refl
 
@@ -128,17 +128,17 @@ between : (q : Bool) (a b from to : ℕ) → a ≡ (if q then from + 1 else from
 between true a b from to start rises end = omega (arith, start, rises, end)
 between false a b from to start rises end = omega (arith, start, rises, end)
 
-part_short : (z : Text) (from to : ℕ) → length (cut_text z (record { from = from; to = to; quoted = false })) ≤ to - from
+part_short : (z : TextBytes) (from to : ℕ) → length (cut_text z (record { from = from; to = to; quoted = false })) ≤ to - from
 part_short z from to = simp length-take (omega arith)
 
-piece_fits : (z : Text) (c : Cut) (from to : ℕ) → Fills from to c → piece_bytes (piece z c) + from ≤ to
+piece_fits : (z : TextBytes) (c : Cut) (from to : ℕ) → Fills from to c → piece_bytes (piece z c) + from ≤ to
 piece_fits z c from to f = omega (arith, part_short z c.from c.to, between c.quoted c.from c.to from to f.start f.ordered f.end)
 
-upper_fits : (z : Text) (from to : ℕ) (upper : Option Cut) → UpperFills from to upper → upper_bytes (option_map (piece z) upper) + from ≤ to
+upper_fits : (z : TextBytes) (from to : ℕ) (upper : Option Cut) → UpperFills from to upper → upper_bytes (option_map (piece z) upper) + from ≤ to
 upper_fits z from to None fills = omega (arith, fills)
 upper_fits z from to (Some c) fills = omega (arith, piece_fits z c (from + 2) to fills)
 
-values_fit : (z : Text) (x : KLexeme) (name_to : ℕ) (c : Cut) (upper : Option Cut) → ValuesFill x.from x.to name_to c upper
+values_fit : (z : TextBytes) (x : KLexeme) (name_to : ℕ) (c : Cut) (upper : Option Cut) → ValuesFill x.from x.to name_to c upper
     → piece_bytes (piece z c) + upper_bytes (option_map (piece z) upper) ≤ width x
 values_fit z x name_to c upper v =
     omega (arith, v.name, v.relation, piece_fits z c v.value_at v.value_to v.value, upper_fits z v.value_to x.to upper v.upper_value)
@@ -166,7 +166,7 @@ pub record GrownParts (xs : List KLexeme) (ts : List KRaw) : Type 0 where
 grown : (xs : List KLexeme) (t : KRaw) (b n : ℕ) → HasForm t → Holds xs b n → bytes t ≤ b → nodes t + 1 ≤ n → Grown xs t
 grown xs t b n form h few less = record { form = form; held = hold_less xs b n (bytes t) (nodes t + 1) h few less }
 
-items_grown : (z : Text) (xs : List KLexeme) (ps : List Piece) → Lists z xs ps → AreKept z xs → AllByRecursion IsPattern ps × Holds xs (sum_by piece_bytes ps) 0
+items_grown : (z : TextBytes) (xs : List KLexeme) (ps : List Piece) → Lists z xs ps → AreKept z xs → AllByRecursion IsPattern ps × Holds xs (sum_by piece_bytes ps) 0
 items_grown z _ _ no_items kept = (tt, none_hold)
 items_grown z _ _ (more_items x xs ps c is items) kept =
     let rest = items_grown z xs ps items kept.1 in
@@ -181,13 +181,13 @@ filled_list : {X : Type 0} (xs : List X) → 1 ≤ length xs → xs ≢ []
 filled_list [] some none = absurd (omega (arith, some))
 filled_list (x ∷ xs) some none = absurd cc
 
-free_grown : (z : Text) (x : KLexeme) (c : Cut) → x.kind ≡ kind.Free c → IsKept z x → Grown (x ∷ []) (tree.Free (piece z c))
+free_grown : (z : TextBytes) (x : KLexeme) (c : Cut) → x.kind ≡ kind.Free c → IsKept z x → Grown (x ∷ []) (tree.Free (piece z c))
 free_grown z x c is kept = record {
   form = pattern_piece z c (kind_sound z x (kind.Free c) is kept);
   held = one_holds x (piece_bytes (piece z c)) (omega (arith, piece_fits z c x.from x.to (kind_filled z x (kind.Free c) is kept)));
 }
 
-restrict_grown : (z : Text) (x : KLexeme) (at : ℕ) (name : Text) (name_to : ℕ) (rel : Relation) (c : Cut) (upper : Option Cut) → x.kind ≡ kind.Restrict name_to rel c upper → IsKept z x
+restrict_grown : (z : TextBytes) (x : KLexeme) (at : ℕ) (name : TextBytes) (name_to : ℕ) (rel : Relation) (c : Cut) (upper : Option Cut) → x.kind ≡ kind.Restrict name_to rel c upper → IsKept z x
     → Grown (x ∷ []) (tree.Restrict at name rel (piece z c) (option_map (piece z) upper))
 restrict_grown z x at name name_to rel c upper is kept =
     let s = kind_sound z x (kind.Restrict name_to rel c upper) is kept in
@@ -197,7 +197,7 @@ restrict_grown z x at name name_to rel c upper is kept =
           (values_fit z x name_to c upper (kind_filled z x (kind.Restrict name_to rel c upper) is kept));
     }
 
-words_grown : (z : Text) (x y : KLexeme) (xs : List KLexeme) (ps : List Piece) (at : ℕ) → x.kind ≡ kind.Words (length ps) → Lists z xs ps → AreKept z (x ∷ (xs ++ y ∷ []))
+words_grown : (z : TextBytes) (x y : KLexeme) (xs : List KLexeme) (ps : List Piece) (at : ℕ) → x.kind ≡ kind.Words (length ps) → Lists z xs ps → AreKept z (x ∷ (xs ++ y ∷ []))
     → Grown (x ∷ (xs ++ y ∷ [])) (tree.Words at ps)
 words_grown z x y xs ps at is items kept =
     let i = items_grown z xs ps items (front_of (IsKept z) xs (y ∷ []) kept.1) in
@@ -211,7 +211,7 @@ group_grown x y xs t at g =
     grown (x ∷ (xs ++ y ∷ [])) (tree.Group at t) (bytes t) (nodes t + 1 + 2) (group_form at t g.form) (hold_between x y xs (bytes t) (nodes t + 1) g.held)
     (omega (arith, group_bytes at t)) (omega (arith, group_nodes at t))
 
-proximity_within : (z : Text) (k : KKind) (n : ℕ) (o : Bool) → IsProximity k n o → IsSound z k → n ≤ 1000
+proximity_within : (z : TextBytes) (k : KKind) (n : ℕ) (o : Bool) → IsProximity k n o → IsSound z k → n ≤ 1000
 proximity_within z _ _ _ unordered sound = sound
 proximity_within z _ _ _ ordered sound = sound
 
@@ -292,56 +292,56 @@ or_grown xs at ts g many =
 -- ---- each rule
 
 mutual
-  basic_grows : (z : Text) (xs : List KLexeme) (t : KRaw) → SpellsBasic z xs t → AreKept z xs → Grown xs t
+  basic_grows : (z : TextBytes) (xs : List KLexeme) (t : KRaw) → SpellsBasic z xs t → AreKept z xs → Grown xs t
   basic_grows z _ _ (free x c is) kept = free_grown z x c is kept.0
   basic_grows z _ _ (all x is) kept = record { form = tt; held = one_holds x 0 (omega arith) }
   basic_grows z _ _ (restrict x name_to rel c upper is) kept = restrict_grown z x x.from _ name_to rel c upper is kept.0
   basic_grows z _ _ (words x y xs ps is items end) kept = words_grown z x y xs ps x.from is items kept
   basic_grows z _ _ (group x y xs t is inner end) kept = group_grown x y xs t x.from (whole_grows z xs t inner (front_of (IsKept z) xs (y ∷ []) kept.1))
 
-  chain_grows : (z : Text) (xs : List KLexeme) (t : KRaw) → SpellsChain z xs t → AreKept z xs → Grown xs t
+  chain_grows : (z : TextBytes) (xs : List KLexeme) (t : KRaw) → SpellsChain z xs t → AreKept z xs → Grown xs t
   chain_grows z _ _ (basic xs t b) kept = basic_grows z xs t b kept
   chain_grows z _ _ (near x xs ys t u n o left is right) kept =
       let rest = rest_of (IsKept z) xs (x ∷ ys) kept in
       near_grown x xs ys t u (first_at xs) n o (chain_grows z xs t left (front_of (IsKept z) xs (x ∷ ys) kept)) (proximity_within z x.kind n o is rest.0.0)
       (basic_grows z ys u right rest.1)
 
-  signed_grows : (z : Text) (xs : List KLexeme) (o : KRawOperand) → SpellsSigned z xs o → AreKept z xs → GrownOperand xs 2 o
+  signed_grows : (z : TextBytes) (xs : List KLexeme) (o : KRawOperand) → SpellsSigned z xs o → AreKept z xs → GrownOperand xs 2 o
   signed_grows z _ _ (signed x xs s t is chain) kept = signed_grown x xs s x.from t (chain_grows z xs t chain kept.1)
 
-  operand_grows : (z : Text) (xs : List KLexeme) (o : KRawOperand) → SpellsOperand z xs o → AreKept z xs → GrownOperand xs 1 o
+  operand_grows : (z : TextBytes) (xs : List KLexeme) (o : KRawOperand) → SpellsOperand z xs o → AreKept z xs → GrownOperand xs 1 o
   operand_grows z _ _ (plain xs t chain) kept = plain_grown xs _ (first_at xs) t (chain_grows z xs t chain kept)
   operand_grows z _ _ (behind_sign xs o s) kept = fewer xs o (signed_grows z xs o s kept)
 
-  operands_grow : (z : Text) (xs : List KLexeme) (os : List KRawOperand) → SpellsOperands z xs os → AreKept z xs → GrownOperands xs os
+  operands_grow : (z : TextBytes) (xs : List KLexeme) (os : List KRawOperand) → SpellsOperands z xs os → AreKept z xs → GrownOperands xs os
   operands_grow z _ _ (one_operand xs o s) kept = one_operand_grown xs o (operand_grows z xs o s kept)
   operands_grow z _ _ (more_operands xs ys os o front last) kept =
       more_operands_grown xs ys os o (operands_grow z xs os front (front_of (IsKept z) xs ys kept)) (operand_grows z ys o last (rest_of (IsKept z) xs ys kept))
 
-  run_grows : (z : Text) (xs : List KLexeme) (t : KRaw) → SpellsRun z xs t → AreKept z xs → Grown xs t
+  run_grows : (z : TextBytes) (xs : List KLexeme) (t : KRaw) → SpellsRun z xs t → AreKept z xs → Grown xs t
   run_grows z _ _ (lone xs t chain) kept = chain_grows z xs t chain kept
   run_grows z _ _ (lone_signed xs o s) kept = lone_grown xs (first_at xs) o (signed_grows z xs o s kept)
   run_grows z _ _ (run xs os s many) kept = run_grown xs (first_at xs) os (operands_grow z xs os s kept) many
 
-  runs_grow : (z : Text) (xs : List KLexeme) (ts : List KRaw) → SpellsRuns z xs ts → AreKept z xs → GrownParts xs ts
+  runs_grow : (z : TextBytes) (xs : List KLexeme) (ts : List KRaw) → SpellsRuns z xs ts → AreKept z xs → GrownParts xs ts
   runs_grow z _ _ (one_run xs t s) kept = one_part_grown xs t (run_grows z xs t s kept)
   runs_grow z _ _ (more_runs x xs ys ts t front is last) kept =
       more_parts_grown x xs ys ts t (runs_grow z xs ts front (front_of (IsKept z) xs (x ∷ ys) kept)) (run_grows z ys t last (rest_of (IsKept z) xs (x ∷ ys) kept).1)
 
-  and_grows : (z : Text) (xs : List KLexeme) (t : KRaw) → SpellsAnd z xs t → AreKept z xs → Grown xs t
+  and_grows : (z : TextBytes) (xs : List KLexeme) (t : KRaw) → SpellsAnd z xs t → AreKept z xs → Grown xs t
   and_grows z _ _ (lone_run xs t s) kept = run_grows z xs t s kept
   and_grows z _ _ (and xs ts s many) kept = and_grown xs (first_at xs) ts (runs_grow z xs ts s kept) many
 
-  ands_grow : (z : Text) (xs : List KLexeme) (ts : List KRaw) → SpellsAnds z xs ts → AreKept z xs → GrownParts xs ts
+  ands_grow : (z : TextBytes) (xs : List KLexeme) (ts : List KRaw) → SpellsAnds z xs ts → AreKept z xs → GrownParts xs ts
   ands_grow z _ _ (one_and xs t s) kept = one_part_grown xs t (and_grows z xs t s kept)
   ands_grow z _ _ (more_ands x xs ys ts t front is last) kept =
       more_parts_grown x xs ys ts t (ands_grow z xs ts front (front_of (IsKept z) xs (x ∷ ys) kept)) (and_grows z ys t last (rest_of (IsKept z) xs (x ∷ ys) kept).1)
 
-  or_grows : (z : Text) (xs : List KLexeme) (t : KRaw) → SpellsOr z xs t → AreKept z xs → Grown xs t
+  or_grows : (z : TextBytes) (xs : List KLexeme) (t : KRaw) → SpellsOr z xs t → AreKept z xs → Grown xs t
   or_grows z _ _ (lone_and xs t s) kept = and_grows z xs t s kept
   or_grows z _ _ (or xs ts s many) kept = or_grown xs (first_at xs) ts (ands_grow z xs ts s kept) many
 
-  whole_grows : (z : Text) (xs : List KLexeme) (t : KRaw) → Spells z xs t → AreKept z xs → Grown xs t
+  whole_grows : (z : TextBytes) (xs : List KLexeme) (t : KRaw) → Spells z xs t → AreKept z xs → Grown xs t
   whole_grows z _ _ (unranked xs t s) kept = or_grows z xs t s kept
   whole_grows z _ _ (xrank x xs ys t u cb left is right) kept =
       let rest = rest_of (IsKept z) xs (x ∷ ys) kept in
@@ -359,7 +359,7 @@ number_within from to [] s = omega (arith, s)
 number_within from to (x ∷ xs) s = omega (arith, s.0, s.1, number_within x.to to xs s.2)
 
 -- what the lexemes of a text spell is well formed
-pub spelled_is_formed : (z : Text) (xs : List KLexeme) (t : KRaw) → lexemes_of z ≡ Ok xs → LexemesAreSound → LexemesAreInPlace → Spells z xs t → IsWellFormed t
+pub spelled_is_formed : (z : TextBytes) (xs : List KLexeme) (t : KRaw) → lexemes_of z ≡ Ok xs → LexemesAreSound → LexemesAreInPlace → Spells z xs t → IsWellFormed t
 spelled_is_formed z xs t read sound places s =
     let p = places z xs read in
     let short : length z ≤ 20480 = p.short in
@@ -371,5 +371,5 @@ spelled_is_formed z xs t read sound places s =
     record { form = g.form; few_bytes = omega (arith, bytes_few, few, short); few_nodes = omega (arith, nodes_few, less, short) }
 
 -- so is the one tree of a text
-pub tree_is_formed : (z : Text) (t : KRaw) → IsTreeOf z t → LexemesAreSound → LexemesAreInPlace → IsWellFormed t
+pub tree_is_formed : (z : TextBytes) (t : KRaw) → IsTreeOf z t → LexemesAreSound → LexemesAreInPlace → IsWellFormed t
 tree_is_formed z t i sound places = spelled_is_formed z i.lexemes t i.read sound places i.spelled

@@ -1,7 +1,7 @@
 -- What lexemes do to what is read so far.
 use Rattle.std.proofs.Common.{◌≡◌, ℕ, List, [], fold, Option, Some, None, refl, sym, ap, ap₂}
 use Rattle.sq_lex.specs.declared.lexeme.KLexeme.{KLexeme}
-use Rattle.sq_lex.specs.Bytes.{Text}
+use Rattle.sq_lex.specs.Bytes.{TextBytes}
 use Rattle.sq_kql.specs.declared.raw.KRawOperand.{KRawOperand}
 use Rattle.sq_kql.specs.declared.raw.KRaw.{KRaw}
 use Rattle.sq_kql.specs.declared.level.Sign.{Sign}
@@ -19,7 +19,7 @@ use Rattle.sq_kql.specs.Tree.{join_run, closed_by, closed, with_operand_by, with
 abbrev pub reading : Level → List Outer → Reading
 reading l outer = record { level = l; outer = outer; listing = None }
 
-abbrev pub reads : Text → Reading → List KLexeme → Reading
+abbrev pub reads : TextBytes → Reading → List KLexeme → Reading
 reads z r xs = fold (shift z) r xs
 
 -- ---- a level

@@ -6,7 +6,7 @@ use Rattle.std.specs.List.{AllByRecursion}
 use Rattle.sq_lex.specs.declared.lexeme.KKind.{KKind}
 use Rattle.sq_lex.specs.declared.lexeme.KKind.TheVariants as kind
 use Rattle.sq_lex.specs.declared.lexeme.KLexeme.{KLexeme}
-use Rattle.sq_lex.specs.Bytes.{Text}
+use Rattle.sq_lex.specs.Bytes.{TextBytes}
 use Rattle.sq_base.specs.Outcome.{Outcome, ◌>>=◌, refused}
 use Rattle.sq_lex.specs.Kql.{lexemes_of}
 use Rattle.sq_lex.specs.Shape.{is_single, IsFree, AreListed, nothing, single, list, LexemesAreSound}
@@ -42,7 +42,7 @@ use Rattle.sq_kql.proofs.ReadLemmas.{RankPart, no_rank, some_rank, OrsPart, no_o
 -- ---- an operand comes
 
 -- behind another operand
-had_operand : (z : Text) (us : List KLexeme) (t : KRaw) → SpellsBasic z us t → (xs : List KLexeme) (l : Level) → LevelOf z xs state.Had l
+had_operand : (z : TextBytes) (us : List KLexeme) (t : KRaw) → SpellsBasic z us t → (xs : List KLexeme) (l : Level) → LevelOf z xs state.Had l
     → LevelOf z (xs ++ us) state.Had (with_operand l (placed (first_at us) t))
 had_operand z us t b xs l v =
     let h = had_of z v.end v.sg v.nr v.last v.pending in
@@ -76,7 +76,7 @@ had_operand z us t b xs l v =
     }
 
 -- a level with an operand, by its parts
-level_had : {z : Text} {ranking : Option Ranking} {ors ands : Parts} {first : Option Operand} {others : List KRawOperand} {sg : Option Sign} {nr : Option Nearing}
+level_had : {z : TextBytes} {ranking : Option Ranking} {ors ands : Parts} {first : Option Operand} {others : List KRawOperand} {sg : Option Sign} {nr : Option Nearing}
     {last : Option Placed} (front end : List KLexeme) → Stretch z front ranking ors ands first others → Pending z end state.Had sg nr last
     → LevelOf z (front ++ end) state.Had (level_of ranking ors ands first others sg nr last)
 level_had {z} {ranking} {ors} {ands} {first} {others} {sg} {nr} {last} front end s p = record {
@@ -96,7 +96,7 @@ level_had {z} {ranking} {ors} {ands} {first} {others} {sg} {nr} {last} front end
   pending = p;
 }
 
-operand_pending : (z : Text) (us : List KLexeme) (t : KRaw) → SpellsBasic z us t → (front : List KLexeme) (ranking : Option Ranking) (ors ands : Parts) (first : Option Operand)
+operand_pending : (z : TextBytes) (us : List KLexeme) (t : KRaw) → SpellsBasic z us t → (front : List KLexeme) (ranking : Option Ranking) (ors ands : Parts) (first : Option Operand)
     (others : List KRawOperand) → Stretch z front ranking ors ands first others → (end : List KLexeme) (now : State) (sg : Option Sign) (nr : Option Nearing) (last : Option Placed)
     → Pending z end now sg nr last → LevelOf z ((front ++ end) ++ us) state.Had (with_operand (level_of ranking ors ands first others sg nr last) (placed (first_at us) t))
 unfolding with_operand closed
@@ -173,7 +173,7 @@ operand_pending z us t b front ranking ors ands first others s _ _ _ _ _ (had_pl
 operand_pending z us t b front ranking ors ands first others s _ _ _ _ _ (had_signed y g xs u at by chain place) =
     had_operand z us t b (front ++ y ∷ xs) _ (level_had front (y ∷ xs) s (had_signed y g xs u at by chain place))
 
-operand_level : (z : Text) (us : List KLexeme) (t : KRaw) → SpellsBasic z us t → (xs : List KLexeme) (now : State) (l : Level) → LevelOf z xs now l
+operand_level : (z : TextBytes) (us : List KLexeme) (t : KRaw) → SpellsBasic z us t → (xs : List KLexeme) (now : State) (l : Level) → LevelOf z xs now l
     → LevelOf z (xs ++ us) state.Had (with_operand l (placed (first_at us) t))
 operand_level z us t b xs now l v =
     let p = placed (first_at us) t in
@@ -185,7 +185,7 @@ operand_level z us t b xs now l v =
 -- ---- a sign, a proximity operator, AND, OR and XRANK come
 
 -- a level where an operand is wanted behind those of the run
-sign_pending : (z : Text) (x : KLexeme) (g : RawSign) → IsSign x.kind g → (front : List KLexeme) (ranking : Option Ranking) (ors ands : Parts) (first : Option Operand)
+sign_pending : (z : TextBytes) (x : KLexeme) (g : RawSign) → IsSign x.kind g → (front : List KLexeme) (ranking : Option Ranking) (ors ands : Parts) (first : Option Operand)
     (others : List KRawOperand) → Stretch z front ranking ors ands first others → (end : List KLexeme) (sg : Option Sign) (nr : Option Nearing) (last : Option Placed)
     → Pending z end state.Wanted sg nr last → LevelOf z ((front ++ end) ++ x ∷ []) state.Signed (with_sign g x.from (level_of ranking ors ands first others sg nr last))
 unfolding with_sign closed
@@ -206,14 +206,14 @@ sign_pending z x g is front ranking ors ands first others s _ _ _ _ wanted = rec
   pending = waits x g is;
 }
 
-sign_wanted : (z : Text) (x : KLexeme) (g : RawSign) → IsSign x.kind g → (xs : List KLexeme) (l : Level) → LevelOf z xs state.Wanted l
+sign_wanted : (z : TextBytes) (x : KLexeme) (g : RawSign) → IsSign x.kind g → (xs : List KLexeme) (l : Level) → LevelOf z xs state.Wanted l
     → LevelOf z (xs ++ x ∷ []) state.Signed (with_sign g x.from l)
 sign_wanted z x g is xs l v =
     let By : Level → Type 0 = λ m. LevelOf z (xs ++ x ∷ []) state.Signed (with_sign g x.from m) in
     let Of : List KLexeme → Type 0 = λ ys. LevelOf z (ys ++ x ∷ []) state.Signed (with_sign g x.from (level_of v.ranking v.ors v.ands v.first v.others v.sg v.nr v.last)) in
     subst By (sym v.is) (subst Of (sym v.split) (sign_pending z x g is v.front v.ranking v.ors v.ands v.first v.others v.stretch v.end v.sg v.nr v.last v.pending))
 
-sign_had : (z : Text) (x : KLexeme) (g : RawSign) → IsSign x.kind g → (xs : List KLexeme) (l : Level) → LevelOf z xs state.Had l
+sign_had : (z : TextBytes) (x : KLexeme) (g : RawSign) → IsSign x.kind g → (xs : List KLexeme) (l : Level) → LevelOf z xs state.Had l
     → LevelOf z (xs ++ x ∷ []) state.Signed (with_sign g x.from l)
 sign_had z x g is xs l v =
     let c = close_level z xs l v in
@@ -244,7 +244,7 @@ sign_had z x g is xs l v =
       pending = waits x g is;
     }
 
-near_pending : (z : Text) (x : KLexeme) (n : ℕ) (o : Bool) → IsProximity x.kind n o → (front : List KLexeme) (ranking : Option Ranking) (ors ands : Parts)
+near_pending : (z : TextBytes) (x : KLexeme) (n : ℕ) (o : Bool) → IsProximity x.kind n o → (front : List KLexeme) (ranking : Option Ranking) (ors ands : Parts)
     (first : Option Operand) (others : List KRawOperand) → Stretch z front ranking ors ands first others → (end : List KLexeme) (sg : Option Sign) (nr : Option Nearing)
     (last : Option Placed) → Pending z end state.Had sg nr last
     → LevelOf z ((front ++ end) ++ x ∷ []) state.Nearing (with_proximity n o (level_of ranking ors ands first others sg nr last))
@@ -282,7 +282,7 @@ near_pending z x n o is front ranking ors ands first others s _ _ _ _ (had_signe
   pending = near_signed y g x xs t n o by chain is;
 }
 
-near_had : (z : Text) (x : KLexeme) (n : ℕ) (o : Bool) → IsProximity x.kind n o → (xs : List KLexeme) (l : Level) → LevelOf z xs state.Had l
+near_had : (z : TextBytes) (x : KLexeme) (n : ℕ) (o : Bool) → IsProximity x.kind n o → (xs : List KLexeme) (l : Level) → LevelOf z xs state.Had l
     → LevelOf z (xs ++ x ∷ []) state.Nearing (with_proximity n o l)
 near_had z x n o is xs l v =
     let By : Level → Type 0 = λ m. LevelOf z (xs ++ x ∷ []) state.Nearing (with_proximity n o m) in
@@ -290,7 +290,7 @@ near_had z x n o is xs l v =
     subst By (sym v.is) (subst Of (sym v.split) (near_pending z x n o is v.front v.ranking v.ors v.ands v.first v.others v.stretch v.end v.sg v.nr v.last v.pending))
 
 -- a level where a new run begins
-begun : (z : Text) (xs ranks alternatives conjuncts : List KLexeme) (ranking : Option Ranking) (ors ands : Parts) (l : Level) → l ≡ start ranking ors ands
+begun : (z : TextBytes) (xs ranks alternatives conjuncts : List KLexeme) (ranking : Option Ranking) (ors ands : Parts) (l : Level) → l ≡ start ranking ors ands
     → xs ≡ ranks ++ (alternatives ++ conjuncts) → RankPart z ranks ranking → OrsPart z alternatives ors → AndsPart z conjuncts ands → LevelOf z xs state.Wanted l
 begun z xs ranks alternatives conjuncts ranking ors ands l is split r o a = record {
   ranking = ranking;
@@ -319,7 +319,7 @@ begun z xs ranks alternatives conjuncts ranking ors ands l is split r o a = reco
   pending = wanted;
 }
 
-and_had : (z : Text) (x : KLexeme) → x.kind ≡ kind.And → (xs : List KLexeme) (l : Level) → LevelOf z xs state.Had l → LevelOf z (xs ++ x ∷ []) state.Wanted (with_and l)
+and_had : (z : TextBytes) (x : KLexeme) → x.kind ≡ kind.And → (xs : List KLexeme) (l : Level) → LevelOf z xs state.Had l → LevelOf z (xs ++ x ∷ []) state.Wanted (with_and l)
 and_had z x is xs l v =
     let d = run_done z xs l v in
     let a = d.ands_are in
@@ -327,7 +327,7 @@ and_had z x is xs l v =
     (ap (λ ys. ys ++ x ∷ []) d.split ∙ (append_assoc d.ranks (d.alternatives ++ d.conjuncts) (x ∷ []) ∙ ap (λ ys. d.ranks ++ ys) (append_assoc d.alternatives d.conjuncts (x ∷ []))))
     d.rank_part d.ors_part (some_ands x d.conjuncts a.trees a.runs a.some is)
 
-or_had : (z : Text) (x : KLexeme) → x.kind ≡ kind.Or → (xs : List KLexeme) (l : Level) → LevelOf z xs state.Had l → LevelOf z (xs ++ x ∷ []) state.Wanted (with_or l)
+or_had : (z : TextBytes) (x : KLexeme) → x.kind ≡ kind.Or → (xs : List KLexeme) (l : Level) → LevelOf z xs state.Had l → LevelOf z (xs ++ x ∷ []) state.Wanted (with_or l)
 or_had z x is xs l v =
     let d = and_done z xs l v in
     let o = d.ors_are in
@@ -335,7 +335,7 @@ or_had z x is xs l v =
     (ap (λ ys. ys ++ x ∷ []) d.split ∙ (append_assoc d.ranks d.alternatives (x ∷ []) ∙ ap (λ ys. d.ranks ++ ys) (sym (append-nil (d.alternatives ++ x ∷ [])))))
     d.rank_part (some_ors x d.alternatives o.trees o.ands o.some is) no_ands
 
-xrank_had : (z : Text) (x : KLexeme) (cb : ℤ) → x.kind ≡ kind.Xrank cb → (xs : List KLexeme) (l : Level) → LevelOf z xs state.Had l
+xrank_had : (z : TextBytes) (x : KLexeme) (cb : ℤ) → x.kind ≡ kind.Xrank cb → (xs : List KLexeme) (l : Level) → LevelOf z xs state.Had l
     → LevelOf z (xs ++ x ∷ []) state.Wanted (with_xrank cb l)
 xrank_had z x cb is xs l v =
     let w = level_whole z xs l v in
@@ -345,12 +345,12 @@ xrank_had z x cb is xs l v =
 -- ---- levels of parentheses
 
 -- the levels round one, each with the `(` behind it
-data Around (z : Text) : List KLexeme → List Outer → Type 0 where
+data Around (z : TextBytes) : List KLexeme → List Outer → Type 0 where
   outermost : Around z [] []
   inside : (x : KLexeme) (ys xs : List KLexeme) (outer : List Outer) (now : State) (l : Level) → Around z ys outer → LevelOf z xs now l → x.kind ≡ kind.LeftParen
       → Around z ((ys ++ xs) ++ x ∷ []) (outer ++ record { level = l; at = x.from } ∷ [])
 
-record ReadingOf (z : Text) (xs : List KLexeme) (now : Standing) (r : Reading) : Type 0 where
+record ReadingOf (z : TextBytes) (xs : List KLexeme) (now : Standing) (r : Reading) : Type 0 where
   pub outer : List Outer
   pub level : Level
   pub around_xs : List KLexeme
@@ -362,7 +362,7 @@ record ReadingOf (z : Text) (xs : List KLexeme) (now : Standing) (r : Reading) :
   pub depth : length outer ≡ now.levels
 
 -- a lexeme or several change the innermost level
-stepped : (z : Text) (us xs : List KLexeme) (now : Standing) (next : State) (r : Reading) (g : ReadingOf z xs now r) (level : Level)
+stepped : (z : TextBytes) (us xs : List KLexeme) (now : Standing) (next : State) (r : Reading) (g : ReadingOf z xs now r) (level : Level)
     → reads z (reading g.level g.outer) us ≡ reading level g.outer → LevelOf z (g.level_xs ++ us) next level → ReadingOf z (xs ++ us) (standing next now.levels) (reads z r us)
 stepped z us xs now next r g level same of = record {
   outer = g.outer;
@@ -376,13 +376,13 @@ stepped z us xs now next r g level same of = record {
   depth = g.depth;
 }
 
-operand_step : (z : Text) (us : List KLexeme) (t : KRaw) → SpellsBasic z us t → (xs : List KLexeme) (now : Standing) (r : Reading) → ReadingOf z xs now r
+operand_step : (z : TextBytes) (us : List KLexeme) (t : KRaw) → SpellsBasic z us t → (xs : List KLexeme) (now : Standing) (r : Reading) → ReadingOf z xs now r
     → ReadingOf z (xs ++ us) (standing state.Had now.levels) (reads z r us)
 operand_step z us t b xs now r g =
     stepped z us xs now state.Had r g (with_operand g.level (placed (first_at us) t)) (basic_reads z us t b g.level g.outer)
     (operand_level z us t b g.level_xs now.state g.level g.of)
 
-open_step : (z : Text) (x : KLexeme) → x.kind ≡ kind.LeftParen → (xs : List KLexeme) (now : Standing) (r : Reading) → ReadingOf z xs now r
+open_step : (z : TextBytes) (x : KLexeme) → x.kind ≡ kind.LeftParen → (xs : List KLexeme) (now : Standing) (r : Reading) → ReadingOf z xs now r
     → ReadingOf z (xs ++ x ∷ []) (standing state.Wanted (now.levels + 1)) (shift z r x)
 open_step z x is xs now r g =
     let o : Outer = record { level = g.level; at = x.from } in
@@ -398,7 +398,7 @@ open_step z x is xs now r g =
       depth = length-append g.outer (o ∷ []) ∙ ap (λ n. n + 1) g.depth;
     }
 
-close_around : (z : Text) (x : KLexeme) → x.kind ≡ kind.RightParen → (xs : List KLexeme) (l : Level) → LevelOf z xs state.Had l → (levels : ℕ)
+close_around : (z : TextBytes) (x : KLexeme) → x.kind ≡ kind.RightParen → (xs : List KLexeme) (l : Level) → LevelOf z xs state.Had l → (levels : ℕ)
     → (ys : List KLexeme) (outer : List Outer) → Around z ys outer → length outer ≡ levels → 0 < levels
     → ReadingOf z ((ys ++ xs) ++ x ∷ []) (standing state.Had (levels - 1)) (shift z (reading l outer) x)
 close_around z x is xs l v levels _ _ outermost depth parted = absurd (omega (arith, depth, parted))
@@ -421,7 +421,7 @@ close_around z x is xs l v levels _ _ (inside p ws vs outer now m around u opens
       depth = omega (arith, depth, length-append outer (o ∷ []));
     }
 
-close_step : (z : Text) (x : KLexeme) → x.kind ≡ kind.RightParen → (xs : List KLexeme) (now : Standing) (r : Reading) → ReadingOf z xs now r → now.state ≡ state.Had → 0 < now.levels
+close_step : (z : TextBytes) (x : KLexeme) → x.kind ≡ kind.RightParen → (xs : List KLexeme) (now : Standing) (r : Reading) → ReadingOf z xs now r → now.state ≡ state.Had → 0 < now.levels
     → ReadingOf z (xs ++ x ∷ []) (standing state.Had (now.levels - 1)) (shift z r x)
 close_step z x is xs now r g had parted =
     let Level_of : State → Type 0 = λ s. LevelOf z g.level_xs s g.level in
@@ -469,21 +469,21 @@ close_by levels false o code at to is h = (grind (arith, nat_tests), h)
 close_ok : (levels : ℕ) (o : Outcome Standing) (code at : ℕ) (to : Standing) → (if levels == 0 then refused code at else o) ≡ Ok to → (0 < levels) × (o ≡ Ok to)
 close_ok levels o code at to h = close_by levels (levels == 0) o code at to refl h
 
-became : (z : Text) (xs : List KLexeme) (a b : Standing) (r : Reading) → a ≡ b → ReadingOf z xs a r → ReadingOf z xs b r
+became : (z : TextBytes) (xs : List KLexeme) (a b : Standing) (r : Reading) → a ≡ b → ReadingOf z xs a r → ReadingOf z xs b r
 became z xs a b r is g = let Of : Standing → Type 0 = λ s. ReadingOf z xs s r in subst Of is g
 
-had_now : (z : Text) (xs : List KLexeme) (now : Standing) (r : Reading) (g : ReadingOf z xs now r) → now.state ≡ state.Had → LevelOf z g.level_xs state.Had g.level
+had_now : (z : TextBytes) (xs : List KLexeme) (now : Standing) (r : Reading) (g : ReadingOf z xs now r) → now.state ≡ state.Had → LevelOf z g.level_xs state.Had g.level
 had_now z xs now r g is = let Of : State → Type 0 = λ s. LevelOf z g.level_xs s g.level in subst Of is g.of
 
-wanted_now : (z : Text) (xs : List KLexeme) (now : Standing) (r : Reading) (g : ReadingOf z xs now r) → now.state ≡ state.Wanted → LevelOf z g.level_xs state.Wanted g.level
+wanted_now : (z : TextBytes) (xs : List KLexeme) (now : Standing) (r : Reading) (g : ReadingOf z xs now r) → now.state ≡ state.Wanted → LevelOf z g.level_xs state.Wanted g.level
 wanted_now z xs now r g is = let Of : State → Type 0 = λ s. LevelOf z g.level_xs s g.level in subst Of is g.of
 
-sign_level_of : (z : Text) (x : KLexeme) (s : RawSign) → IsSign x.kind s → (xs : List KLexeme) (now : Standing) (r : Reading) (g : ReadingOf z xs now r)
+sign_level_of : (z : TextBytes) (x : KLexeme) (s : RawSign) → IsSign x.kind s → (xs : List KLexeme) (now : Standing) (r : Reading) (g : ReadingOf z xs now r)
     → (now.state ≡ state.Wanted) ⊎ (now.state ≡ state.Had) → LevelOf z (g.level_xs ++ x ∷ []) state.Signed (with_sign s x.from g.level)
 sign_level_of z x s is xs now r g (inl w) = sign_wanted z x s is g.level_xs g.level (wanted_now z xs now r g w)
 sign_level_of z x s is xs now r g (inr h) = sign_had z x s is g.level_xs g.level (had_now z xs now r g h)
 
-sign_step : (z : Text) (x : KLexeme) (s : RawSign) → IsSign x.kind s → (xs : List KLexeme) (now to : Standing) (r : Reading) → ReadingOf z xs now r
+sign_step : (z : TextBytes) (x : KLexeme) (s : RawSign) → IsSign x.kind s → (xs : List KLexeme) (now to : Standing) (r : Reading) → ReadingOf z xs now r
     → sign_at now.state now.levels x.from ≡ Ok to → ReadingOf z (xs ++ x ∷ []) to (shift z r x)
 sign_step z x s is xs now to r g h =
     let ok = sign_ok now.state now.levels x.from to h in
@@ -491,7 +491,7 @@ sign_step z x s is xs now to r g h =
     (stepped z (x ∷ []) xs now state.Signed r g (with_sign s x.from g.level) (sign_shift z x.kind s x.from (reading g.level g.outer) is)
     (sign_level_of z x s is xs now r g ok.0))
 
-near_step : (z : Text) (x : KLexeme) (n : ℕ) (o : Bool) → IsProximity x.kind n o → (xs : List KLexeme) (now to : Standing) (r : Reading) → ReadingOf z xs now r
+near_step : (z : TextBytes) (x : KLexeme) (n : ℕ) (o : Bool) → IsProximity x.kind n o → (xs : List KLexeme) (now to : Standing) (r : Reading) → ReadingOf z xs now r
     → after_operand now.state (standing state.Nearing now.levels) x.from ≡ Ok to → ReadingOf z (xs ++ x ∷ []) to (shift z r x)
 near_step z x n o is xs now to r g h =
     let ok = after_ok now.state (standing state.Nearing now.levels) x.from to h in
@@ -500,7 +500,7 @@ near_step z x n o is xs now to r g h =
     (near_had z x n o is g.level_xs g.level (had_now z xs now r g ok.0)))
 
 -- one lexeme that stands by itself, by its kind
-single_step : (z : Text) (x : KLexeme) (xs : List KLexeme) (now to : Standing) (r : Reading) (k : KKind) → x.kind ≡ k → is_single k ≡ true
+single_step : (z : TextBytes) (x : KLexeme) (xs : List KLexeme) (now to : Standing) (r : Reading) (k : KKind) → x.kind ≡ k → is_single k ≡ true
     → step (role_of k) now x.from ≡ Ok to → ReadingOf z xs now r → ReadingOf z (xs ++ x ∷ []) to (shift z r x)
 single_step z x xs now to r (kind.Free c) is alone h g =
     let same : standing state.Had now.levels ≡ to = cc in became z _ _ to _ same (operand_step z (x ∷ []) (tree.Free (piece z c)) (free x c is) xs now r g)
@@ -540,12 +540,12 @@ single_step z x xs now to r kind.WordsEnd is alone h g = absurd cc
 
 -- ---- WORDS lists
 
-record Listed (z : Text) (xs : List KLexeme) : Type 0 where
+record Listed (z : TextBytes) (xs : List KLexeme) : Type 0 where
   pub pieces : List Piece
   pub lists : Lists z xs pieces
   pub count : length pieces ≡ length xs
 
-listed_of : (z : Text) (xs : List KLexeme) → AllByRecursion IsFree xs → Listed z xs
+listed_of : (z : TextBytes) (xs : List KLexeme) → AllByRecursion IsFree xs → Listed z xs
 listed_of z [] each = record { pieces = []; lists = no_items; count = refl }
 listed_of z (x ∷ xs) each =
     let rest = listed_of z xs each.1 in
@@ -582,11 +582,11 @@ list_goes len now x y items xs n is each end =
     ∙ operand_goes y.kind kind.WordsEnd (standing state.Had now.levels) y.from (λ next. order_from next len xs) end refl)
 
 -- at the end no level is parted
-around_none : (z : Text) (ys : List KLexeme) (outer : List Outer) → Around z ys outer → length outer ≡ 0 → ys ≡ []
+around_none : (z : TextBytes) (ys : List KLexeme) (outer : List Outer) → Around z ys outer → length outer ≡ 0 → ys ≡ []
 around_none z _ _ outermost depth = refl
 around_none z _ _ (inside p ws vs outer now m around u opens) depth = absurd (omega (arith, depth, length-append outer (record { level = m; at = p.from } ∷ [])))
 
-end_read : (z : Text) (len : ℕ) (xs : List KLexeme) (now : Standing) (r : Reading) → ReadingOf z xs now r → ending now.state now.levels len ≡ Ok tt → WholeOf z (xs ++ []) (whole r.level)
+end_read : (z : TextBytes) (len : ℕ) (xs : List KLexeme) (now : Standing) (r : Reading) → ReadingOf z xs now r → ending now.state now.levels len ≡ Ok tt → WholeOf z (xs ++ []) (whole r.level)
 end_read z len xs now r g h =
     let ok = ending_ok now.state now.levels len h in
     let w = level_whole z g.level_xs g.level (had_now z xs now r g ok.0) in
@@ -604,7 +604,7 @@ end_from : (now : Standing) (len : ℕ) → order_from now len [] ≡ Ok tt → 
 unfolding order_from
 end_from now len h = h
 
-all_read : (z : Text) (len : ℕ) (rest : List KLexeme) → AreListed rest → (xs : List KLexeme) (now : Standing) (r : Reading) → ReadingOf z xs now r
+all_read : (z : TextBytes) (len : ℕ) (rest : List KLexeme) → AreListed rest → (xs : List KLexeme) (now : Standing) (r : Reading) → ReadingOf z xs now r
     → order_from now len rest ≡ Ok tt → WholeOf z (xs ++ rest) (whole (reads z r rest).level)
 all_read z len _ nothing xs now r g h = end_read z len xs now r g (end_from now len h)
 all_read z len _ (single x rest alone listed) xs now r g h =
@@ -624,7 +624,7 @@ all_read z len _ (list x y items rest is each end listed) xs now r g h =
     let read : reads z (reads z r us) rest ≡ reads z r (x ∷ (items ++ y ∷ rest)) = sym (reads_on z r (reads z r us) us rest refl) ∙ ap (reads z r) same in
     subst By read (subst Of (append_assoc xs us rest ∙ ap (λ ys. xs ++ ys) same) w)
 
-spelled : (z : Text) (xs : List KLexeme) → WholeOf z xs (whole (reads z nothing_read xs).level) → Spells z xs (tree_of z xs)
+spelled : (z : TextBytes) (xs : List KLexeme) → WholeOf z xs (whole (reads z nothing_read xs).level) → Spells z xs (tree_of z xs)
 unfolding tree_of
 spelled z xs w = let Of : KRaw → Type 0 = λ t. Spells z xs t in subst Of (sym (ap (λ (p : Placed). p.tree) w.is)) w.spells
 
@@ -634,7 +634,7 @@ begins len [] h = absurd cc
 begins len (x ∷ xs) h = h
 
 -- lexemes that stand in order spell the tree that is read of them
-pub order_spells : (z : Text) (xs : List KLexeme) → AreListed xs → order (length z) xs ≡ Ok tt → Spells z xs (tree_of z xs)
+pub order_spells : (z : TextBytes) (xs : List KLexeme) → AreListed xs → order (length z) xs ≡ Ok tt → Spells z xs (tree_of z xs)
 order_spells z xs listed h =
     let fresh_level = start None no_parts no_parts in
     let g : ReadingOf z [] (standing state.Wanted 0) nothing_read = record {
@@ -651,7 +651,7 @@ order_spells z xs listed h =
     spelled z xs (all_read z (length z) xs listed [] (standing state.Wanted 0) nothing_read g (begins (length z) xs h))
 
 -- what is read of the lexemes of a text is its tree
-pub tree_is : (z : Text) (xs : List KLexeme) (t : KRaw) → lexemes_of z ≡ Ok xs → LexemesAreSound → order (length z) xs ≡ Ok tt → t ≡ tree_of z xs → IsTreeOf z t
+pub tree_is : (z : TextBytes) (xs : List KLexeme) (t : KRaw) → lexemes_of z ≡ Ok xs → LexemesAreSound → order (length z) xs ≡ Ok tt → t ≡ tree_of z xs → IsTreeOf z t
 tree_is z xs t read sound stands is =
     let Of : KRaw → Type 0 = λ u. IsTreeOf z u in
     subst Of (sym is) (record { lexemes = xs; read = read; ordered = stands; spelled = order_spells z xs (sound z xs read).0 stands; only = spells_read z xs })

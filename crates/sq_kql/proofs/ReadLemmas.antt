@@ -2,7 +2,7 @@
 use Rattle.std.proofs.Common.{◌≡◌, ℕ, ◌==◌, ◌≤◌, ℤ, Bool, false, List, [], ◌∷◌, ◌++◌, length, Option, Some, None, refl, sym, subst, ap, ◌∙◌, append_assoc, arith}
 use Rattle.sq_lex.specs.declared.lexeme.KKind.TheVariants as kind
 use Rattle.sq_lex.specs.declared.lexeme.KLexeme.{KLexeme}
-use Rattle.sq_lex.specs.Bytes.{Text}
+use Rattle.sq_lex.specs.Bytes.{TextBytes}
 use Rattle.sq_kql.specs.declared.raw.RawSign.{RawSign}
 use Rattle.sq_kql.specs.declared.raw.RawSign.TheVariants as sign
 use Rattle.sq_kql.specs.declared.raw.KRawOperand.{KRawOperand}
@@ -25,33 +25,33 @@ use Rattle.sq_kql.proofs.UniqueLemmas.{Filled, not_zero, filled_operands, filled
 -- ---- what the parts of a level spell
 
 -- the left side of XRANK, with its word
-pub data RankPart (z : Text) : List KLexeme → Option Ranking → Type 0 where
+pub data RankPart (z : TextBytes) : List KLexeme → Option Ranking → Type 0 where
   no_rank : RankPart z [] None
   some_rank : (x : KLexeme) (xs : List KLexeme) (t : KRaw) (cb : ℤ) → Spells z xs t → x.kind ≡ kind.Xrank cb
       → RankPart z (xs ++ x ∷ []) (Some (record { matched = placed (first_at xs) t; cb = cb }))
 
 -- the parts of OR before its last word, with that
-pub data OrsPart (z : Text) : List KLexeme → Parts → Type 0 where
+pub data OrsPart (z : TextBytes) : List KLexeme → Parts → Type 0 where
   no_ors : OrsPart z [] no_parts
   some_ors : (x : KLexeme) (xs : List KLexeme) (ts : List KRaw) → SpellsAnds z xs ts → 1 ≤ length ts → x.kind ≡ kind.Or → OrsPart z (xs ++ x ∷ []) (parts (first_at xs) ts)
 
-pub data AndsPart (z : Text) : List KLexeme → Parts → Type 0 where
+pub data AndsPart (z : TextBytes) : List KLexeme → Parts → Type 0 where
   no_ands : AndsPart z [] no_parts
   some_ands : (x : KLexeme) (xs : List KLexeme) (ts : List KRaw) → SpellsRuns z xs ts → 1 ≤ length ts → x.kind ≡ kind.And → AndsPart z (xs ++ x ∷ []) (parts (first_at xs) ts)
 
 -- operands of a run, and the run that they are alone
-pub record RunOf (z : Text) (xs : List KLexeme) (first : Operand) (others : List KRawOperand) : Type 0 where
+pub record RunOf (z : TextBytes) (xs : List KLexeme) (first : Operand) (others : List KRawOperand) : Type 0 where
   pub operands : SpellsOperands z xs (operand_node first ∷ others)
   pub place : first.at ≡ first_at xs
   pub tree : KRaw
   pub spells : SpellsRun z xs tree
   pub node : run_node (Some first) others ≡ placed (first_at xs) tree
 
-pub data RunPart (z : Text) : List KLexeme → Option Operand → List KRawOperand → Type 0 where
+pub data RunPart (z : TextBytes) : List KLexeme → Option Operand → List KRawOperand → Type 0 where
   no_run : RunPart z [] None []
   some_run : (xs : List KLexeme) (first : Operand) (others : List KRawOperand) → RunOf z xs first others → RunPart z xs (Some first) others
 
-pub record OperandOf (z : Text) (xs : List KLexeme) (o : Operand) : Type 0 where
+pub record OperandOf (z : TextBytes) (xs : List KLexeme) (o : Operand) : Type 0 where
   pub operand : SpellsOperand z xs (operand_node o)
   pub place : o.at ≡ first_at xs
   pub tree : KRaw
@@ -65,7 +65,7 @@ abbrev pub near_of : ℕ → KRaw → ℕ → Bool → Nearing
 near_of at t n o = record { left = placed at t; n = n; ordered = o }
 
 -- what stands behind the operands of the run, by state
-pub data Pending (z : Text) : List KLexeme → State → Option Sign → Option Nearing → Option Placed → Type 0 where
+pub data Pending (z : TextBytes) : List KLexeme → State → Option Sign → Option Nearing → Option Placed → Type 0 where
   wanted : Pending z [] state.Wanted None None None
   waits : (x : KLexeme) (s : RawSign) → IsSign x.kind s → Pending z (x ∷ []) state.Signed (Some (sign_of s x.from)) None None
   near_plain : (x : KLexeme) (xs : List KLexeme) (t : KRaw) (n : ℕ) (o : Bool) → SpellsChain z xs t → IsProximity x.kind n o
@@ -81,7 +81,7 @@ level_of ranking ors ands first others s n last =
     record { ranking = ranking; ors = ors; ands = ands; first = first; others = others; sign = s; nearing = n; last = last }
 
 -- what stands before the pending part of a level
-pub record Stretch (z : Text) (xs : List KLexeme) (ranking : Option Ranking) (ors ands : Parts) (first : Option Operand) (others : List KRawOperand) : Type 0 where
+pub record Stretch (z : TextBytes) (xs : List KLexeme) (ranking : Option Ranking) (ors ands : Parts) (first : Option Operand) (others : List KRawOperand) : Type 0 where
   pub ranks : List KLexeme
   pub alternatives : List KLexeme
   pub conjuncts : List KLexeme
@@ -92,7 +92,7 @@ pub record Stretch (z : Text) (xs : List KLexeme) (ranking : Option Ranking) (or
   pub ands_part : AndsPart z conjuncts ands
   pub run_part : RunPart z operands first others
 
-pub record LevelOf (z : Text) (xs : List KLexeme) (now : State) (l : Level) : Type 0 where
+pub record LevelOf (z : TextBytes) (xs : List KLexeme) (now : State) (l : Level) : Type 0 where
   pub ranking : Option Ranking
   pub ors : Parts
   pub ands : Parts
@@ -110,7 +110,7 @@ pub record LevelOf (z : Text) (xs : List KLexeme) (now : State) (l : Level) : Ty
 
 -- ---- an operand joins the run
 
-pub operand_plain : (z : Text) (xs : List KLexeme) (t : KRaw) (at : ℕ) → SpellsChain z xs t → at ≡ first_at xs → OperandOf z xs (of_sign sign.Plain at t)
+pub operand_plain : (z : TextBytes) (xs : List KLexeme) (t : KRaw) (at : ℕ) → SpellsChain z xs t → at ≡ first_at xs → OperandOf z xs (of_sign sign.Plain at t)
 operand_plain z xs t at chain is = record {
   operand = let Of : ℕ → Type 0 = λ n. SpellsOperand z xs (operand_node (of_sign sign.Plain n t)) in subst Of (sym is) (plain xs t chain);
   place = is;
@@ -119,7 +119,7 @@ operand_plain z xs t at chain is = record {
   node = plain_node at t ∙ ap (λ n. placed n t) is;
 }
 
-pub operand_signed : (z : Text) (y : KLexeme) (s : RawSign) (xs : List KLexeme) (t : KRaw) → IsSign y.kind s → SpellsChain z xs t → OperandOf z (y ∷ xs) (of_sign s y.from t)
+pub operand_signed : (z : TextBytes) (y : KLexeme) (s : RawSign) (xs : List KLexeme) (t : KRaw) → IsSign y.kind s → SpellsChain z xs t → OperandOf z (y ∷ xs) (of_sign s y.from t)
 operand_signed z y s xs t is chain = record {
   operand = behind_sign (y ∷ xs) _ (signed y xs s t is chain);
   place = refl;
@@ -133,7 +133,7 @@ more_some [] x some = absurd (omega arith)
 more_some (y ∷ []) x some = omega arith
 more_some (y ∷ (w ∷ xs)) x some = omega arith
 
-pub run_more : (z : Text) (xs ys : List KLexeme) (first : Operand) (others : List KRawOperand) (o : Operand) → RunOf z xs first others → OperandOf z ys o
+pub run_more : (z : TextBytes) (xs ys : List KLexeme) (first : Operand) (others : List KRawOperand) (o : Operand) → RunOf z xs first others → OperandOf z ys o
     → RunOf z (xs ++ ys) first (others ++ operand_node o ∷ [])
 run_more z xs ys first others o r s =
     let nodes = operand_node first ∷ others in
@@ -148,14 +148,14 @@ run_more z xs ys first others o r s =
       node = many_node first (others ++ operand_node o ∷ []) _ _ refl place many;
     }
 
-pub record Joined (z : Text) (xs : List KLexeme) (first : Option Operand) (others : List KRawOperand) (o : Operand) : Type 0 where
+pub record Joined (z : TextBytes) (xs : List KLexeme) (first : Option Operand) (others : List KRawOperand) (o : Operand) : Type 0 where
   pub head : Operand
   pub rest : List KRawOperand
   pub run_of : RunOf z xs head rest
   pub is : (ranking : Option Ranking) (ors ands : Parts) (sg : Option Sign) (nr : Option Nearing) (last : Option Placed)
       → join_run first o (level_of ranking ors ands first others sg nr last) ≡ level_of ranking ors ands (Some head) rest None nr None
 
-pub joined : (z : Text) (ys : List KLexeme) (o : Operand) (xs : List KLexeme) (first : Option Operand) (others : List KRawOperand)
+pub joined : (z : TextBytes) (ys : List KLexeme) (o : Operand) (xs : List KLexeme) (first : Option Operand) (others : List KRawOperand)
     → RunPart z xs first others → OperandOf z ys o → Joined z (xs ++ ys) first others o
 joined z ys o _ _ _ no_run s = record {
   head = o;
@@ -170,18 +170,18 @@ joined z ys o _ _ _ (some_run xs first others r) s = record {
   is = λ ranking ors ands sg nr last. refl;
 }
 
-pub record HadOf (z : Text) (xs : List KLexeme) (sg : Option Sign) (nr : Option Nearing) (last : Option Placed) : Type 0 where
+pub record HadOf (z : TextBytes) (xs : List KLexeme) (sg : Option Sign) (nr : Option Nearing) (last : Option Placed) : Type 0 where
   pub tree : Placed
   pub last_is : last ≡ Some tree
   pub nr_is : nr ≡ None
   pub operand_of : OperandOf z xs (operand sg tree)
 
-pub had_of : (z : Text) (xs : List KLexeme) (sg : Option Sign) (nr : Option Nearing) (last : Option Placed) → Pending z xs state.Had sg nr last → HadOf z xs sg nr last
+pub had_of : (z : TextBytes) (xs : List KLexeme) (sg : Option Sign) (nr : Option Nearing) (last : Option Placed) → Pending z xs state.Had sg nr last → HadOf z xs sg nr last
 had_of z _ _ _ _ (had_plain xs t at chain is) = record { tree = placed at t; last_is = refl; nr_is = refl; operand_of = operand_plain z xs t at chain is }
 had_of z _ _ _ _ (had_signed y s xs t at is chain place) = record { tree = placed at t; last_is = refl; nr_is = refl; operand_of = operand_signed z y s xs t is chain }
 
 -- a level whose last operand has joined the run
-pub record ClosedOf (z : Text) (xs : List KLexeme) (l : Level) : Type 0 where
+pub record ClosedOf (z : TextBytes) (xs : List KLexeme) (l : Level) : Type 0 where
   pub ranking : Option Ranking
   pub ors : Parts
   pub ands : Parts
@@ -203,7 +203,7 @@ pub longer : (xs r o a f e : List KLexeme) → xs ≡ r ++ (o ++ (a ++ f)) → x
 longer xs r o a f e is =
     ap (λ l. l ++ e) is ∙ (append_assoc r (o ++ (a ++ f)) e ∙ ap (λ l. r ++ l) (append_assoc o (a ++ f) e ∙ ap (λ l. o ++ l) (append_assoc a f e)))
 
-pub close_level : (z : Text) (xs : List KLexeme) (l : Level) → LevelOf z xs state.Had l → ClosedOf z xs l
+pub close_level : (z : TextBytes) (xs : List KLexeme) (l : Level) → LevelOf z xs state.Had l → ClosedOf z xs l
 close_level z xs l v =
     let s = v.stretch in
     let h = had_of z v.end v.sg v.nr v.last v.pending in
@@ -237,7 +237,7 @@ not_none xs some = not_zero (length xs) some
 pub place_on : (x : KLexeme) (xs ys : List KLexeme) → Filled xs → first_at xs ≡ first_at ((xs ++ x ∷ []) ++ ys)
 place_on x xs ys some = sym (ap first_at (append_assoc xs (x ∷ []) ys) ∙ some (x ∷ ys))
 
-pub record AndsOf (z : Text) (xs : List KLexeme) (ps : Parts) : Type 0 where
+pub record AndsOf (z : TextBytes) (xs : List KLexeme) (ps : Parts) : Type 0 where
   pub trees : List KRaw
   pub runs : SpellsRuns z xs trees
   pub some : 1 ≤ length trees
@@ -246,7 +246,7 @@ pub record AndsOf (z : Text) (xs : List KLexeme) (ps : Parts) : Type 0 where
   pub spells : SpellsAnd z xs tree
   pub node : and_node ps ≡ placed (first_at xs) tree
 
-pub ands_of : (z : Text) (ys : List KLexeme) (t : KRaw) → SpellsRun z ys t → (xs : List KLexeme) (ps : Parts) → AndsPart z xs ps
+pub ands_of : (z : TextBytes) (ys : List KLexeme) (t : KRaw) → SpellsRun z ys t → (xs : List KLexeme) (ps : Parts) → AndsPart z xs ps
     → AndsOf z (xs ++ ys) (with_part ps (placed (first_at ys) t))
 ands_of z ys t s _ _ no_ands = record {
   trees = t ∷ [];
@@ -274,7 +274,7 @@ ands_of z ys t s _ _ (some_ands x xs ts front some is) =
       node = ap and_node same ∙ and_many (first_at all) (ts ++ t ∷ []) many;
     }
 
-pub record OrsOf (z : Text) (xs : List KLexeme) (ps : Parts) : Type 0 where
+pub record OrsOf (z : TextBytes) (xs : List KLexeme) (ps : Parts) : Type 0 where
   pub trees : List KRaw
   pub ands : SpellsAnds z xs trees
   pub some : 1 ≤ length trees
@@ -283,7 +283,7 @@ pub record OrsOf (z : Text) (xs : List KLexeme) (ps : Parts) : Type 0 where
   pub spells : SpellsOr z xs tree
   pub node : or_node ps ≡ placed (first_at xs) tree
 
-pub ors_of : (z : Text) (ys : List KLexeme) (t : KRaw) → SpellsAnd z ys t → (xs : List KLexeme) (ps : Parts) → OrsPart z xs ps
+pub ors_of : (z : TextBytes) (ys : List KLexeme) (t : KRaw) → SpellsAnd z ys t → (xs : List KLexeme) (ps : Parts) → OrsPart z xs ps
     → OrsOf z (xs ++ ys) (with_part ps (placed (first_at ys) t))
 ors_of z ys t s _ _ no_ors = record {
   trees = t ∷ [];
@@ -311,12 +311,12 @@ ors_of z ys t s _ _ (some_ors x xs ts front some is) =
       node = ap or_node same ∙ or_many (first_at all) (ts ++ t ∷ []) many;
     }
 
-pub record WholeOf (z : Text) (xs : List KLexeme) (p : Placed) : Type 0 where
+pub record WholeOf (z : TextBytes) (xs : List KLexeme) (p : Placed) : Type 0 where
   pub tree : KRaw
   pub spells : Spells z xs tree
   pub is : p ≡ placed (first_at xs) tree
 
-pub rank_of : (z : Text) (ys : List KLexeme) (t : KRaw) → SpellsOr z ys t → (xs : List KLexeme) (ranking : Option Ranking) → RankPart z xs ranking
+pub rank_of : (z : TextBytes) (ys : List KLexeme) (t : KRaw) → SpellsOr z ys t → (xs : List KLexeme) (ranking : Option Ranking) → RankPart z xs ranking
     → WholeOf z (xs ++ ys) (ranked_by ranking (placed (first_at ys) t))
 rank_of z ys t s _ _ no_rank = record { tree = t; spells = unranked ys t s; is = refl }
 rank_of z ys t s _ _ (some_rank x xs u cb left is) =
@@ -329,7 +329,7 @@ rank_of z ys t s _ _ (some_rank x xs u cb left is) =
     }
 
 -- a level whose run is whole
-pub record RunDone (z : Text) (xs : List KLexeme) (l : Level) : Type 0 where
+pub record RunDone (z : TextBytes) (xs : List KLexeme) (l : Level) : Type 0 where
   pub ranking : Option Ranking
   pub ors : Parts
   pub ranks : List KLexeme
@@ -342,7 +342,7 @@ pub record RunDone (z : Text) (xs : List KLexeme) (l : Level) : Type 0 where
   pub ands_are : AndsOf z conjuncts ands
   pub is : with_and l ≡ start ranking ors ands
 
-pub run_done : (z : Text) (xs : List KLexeme) (l : Level) → LevelOf z xs state.Had l → RunDone z xs l
+pub run_done : (z : TextBytes) (xs : List KLexeme) (l : Level) → LevelOf z xs state.Had l → RunDone z xs l
 run_done z xs l v =
     let c = close_level z xs l v in
     let r = c.run_of in
@@ -361,7 +361,7 @@ run_done z xs l v =
     }
 
 -- a level whose AND is whole
-pub record AndDone (z : Text) (xs : List KLexeme) (l : Level) : Type 0 where
+pub record AndDone (z : TextBytes) (xs : List KLexeme) (l : Level) : Type 0 where
   pub ranking : Option Ranking
   pub ranks : List KLexeme
   pub alternatives : List KLexeme
@@ -371,7 +371,7 @@ pub record AndDone (z : Text) (xs : List KLexeme) (l : Level) : Type 0 where
   pub ors_are : OrsOf z alternatives ors
   pub is : with_or l ≡ start ranking ors no_parts
 
-pub and_done : (z : Text) (xs : List KLexeme) (l : Level) → LevelOf z xs state.Had l → AndDone z xs l
+pub and_done : (z : TextBytes) (xs : List KLexeme) (l : Level) → LevelOf z xs state.Had l → AndDone z xs l
 and_done z xs l v =
     let d = run_done z xs l v in
     let a = d.ands_are in
@@ -387,7 +387,7 @@ and_done z xs l v =
     }
 
 -- all that stands at a level
-pub level_whole : (z : Text) (xs : List KLexeme) (l : Level) → LevelOf z xs state.Had l → WholeOf z xs (whole l)
+pub level_whole : (z : TextBytes) (xs : List KLexeme) (l : Level) → LevelOf z xs state.Had l → WholeOf z xs (whole l)
 level_whole z xs l v =
     let d = and_done z xs l v in
     let o = d.ors_are in

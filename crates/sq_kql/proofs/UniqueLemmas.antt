@@ -6,7 +6,7 @@ use Rattle.std.proofs.lemmas.List.Sums.{fold-append}
 use Rattle.sq_lex.specs.declared.lexeme.KKind.{KKind}
 use Rattle.sq_lex.specs.declared.lexeme.KKind.TheVariants as kind
 use Rattle.sq_lex.specs.declared.lexeme.KLexeme.{KLexeme}
-use Rattle.sq_lex.specs.Bytes.{Text}
+use Rattle.sq_lex.specs.Bytes.{TextBytes}
 use Rattle.sq_kql.specs.declared.raw.Piece.{Piece}
 use Rattle.sq_kql.specs.declared.raw.RawSign.{RawSign}
 use Rattle.sq_kql.specs.declared.raw.RawSign.TheVariants as sign
@@ -36,95 +36,95 @@ Filled xs = (zs : List KLexeme) → first_at (xs ++ zs) ≡ first_at xs
 pub filled_append : (xs ys : List KLexeme) → Filled xs → Filled (xs ++ ys)
 filled_append xs ys filled zs = ap first_at (append_assoc xs ys zs) ∙ (filled (ys ++ zs) ∙ sym (filled ys))
 
-filled_basic : (z : Text) (xs : List KLexeme) (t : KRaw) → SpellsBasic z xs t → Filled xs
+filled_basic : (z : TextBytes) (xs : List KLexeme) (t : KRaw) → SpellsBasic z xs t → Filled xs
 filled_basic z _ _ (free x c is) zs = refl
 filled_basic z _ _ (all x is) zs = refl
 filled_basic z _ _ (restrict x name_to rel c upper is) zs = refl
 filled_basic z _ _ (words x y xs ps is items end) zs = refl
 filled_basic z _ _ (group x y xs t is inner end) zs = refl
 
-pub filled_chain : (z : Text) (xs : List KLexeme) (t : KRaw) → SpellsChain z xs t → Filled xs
+pub filled_chain : (z : TextBytes) (xs : List KLexeme) (t : KRaw) → SpellsChain z xs t → Filled xs
 filled_chain z _ _ (basic xs t b) = filled_basic z xs t b
 filled_chain z _ _ (near x xs ys t u n o left is right) = filled_append xs (x ∷ ys) (filled_chain z xs t left)
 
-filled_signed : (z : Text) (xs : List KLexeme) (o : KRawOperand) → SpellsSigned z xs o → Filled xs
+filled_signed : (z : TextBytes) (xs : List KLexeme) (o : KRawOperand) → SpellsSigned z xs o → Filled xs
 filled_signed z _ _ (signed x xs s t is chain) zs = refl
 
-filled_operand : (z : Text) (xs : List KLexeme) (o : KRawOperand) → SpellsOperand z xs o → Filled xs
+filled_operand : (z : TextBytes) (xs : List KLexeme) (o : KRawOperand) → SpellsOperand z xs o → Filled xs
 filled_operand z _ _ (plain xs t chain) = filled_chain z xs t chain
 filled_operand z _ _ (behind_sign xs o s) = filled_signed z xs o s
 
-pub filled_operands : (z : Text) (xs : List KLexeme) (os : List KRawOperand) → SpellsOperands z xs os → Filled xs
+pub filled_operands : (z : TextBytes) (xs : List KLexeme) (os : List KRawOperand) → SpellsOperands z xs os → Filled xs
 filled_operands z _ _ (one_operand xs o s) = filled_operand z xs o s
 filled_operands z _ _ (more_operands xs ys os o front last) = filled_append xs ys (filled_operands z xs os front)
 
-filled_run : (z : Text) (xs : List KLexeme) (t : KRaw) → SpellsRun z xs t → Filled xs
+filled_run : (z : TextBytes) (xs : List KLexeme) (t : KRaw) → SpellsRun z xs t → Filled xs
 filled_run z _ _ (lone xs t chain) = filled_chain z xs t chain
 filled_run z _ _ (lone_signed xs o s) = filled_signed z xs o s
 filled_run z _ _ (run xs os s many) = filled_operands z xs os s
 
-pub filled_runs : (z : Text) (xs : List KLexeme) (ts : List KRaw) → SpellsRuns z xs ts → Filled xs
+pub filled_runs : (z : TextBytes) (xs : List KLexeme) (ts : List KRaw) → SpellsRuns z xs ts → Filled xs
 filled_runs z _ _ (one_run xs t s) = filled_run z xs t s
 filled_runs z _ _ (more_runs x xs ys ts t front is last) = filled_append xs (x ∷ ys) (filled_runs z xs ts front)
 
-filled_and : (z : Text) (xs : List KLexeme) (t : KRaw) → SpellsAnd z xs t → Filled xs
+filled_and : (z : TextBytes) (xs : List KLexeme) (t : KRaw) → SpellsAnd z xs t → Filled xs
 filled_and z _ _ (lone_run xs t s) = filled_run z xs t s
 filled_and z _ _ (and xs ts s many) = filled_runs z xs ts s
 
-pub filled_ands : (z : Text) (xs : List KLexeme) (ts : List KRaw) → SpellsAnds z xs ts → Filled xs
+pub filled_ands : (z : TextBytes) (xs : List KLexeme) (ts : List KRaw) → SpellsAnds z xs ts → Filled xs
 filled_ands z _ _ (one_and xs t s) = filled_and z xs t s
 filled_ands z _ _ (more_ands x xs ys ts t front is last) = filled_append xs (x ∷ ys) (filled_ands z xs ts front)
 
-filled_or : (z : Text) (xs : List KLexeme) (t : KRaw) → SpellsOr z xs t → Filled xs
+filled_or : (z : TextBytes) (xs : List KLexeme) (t : KRaw) → SpellsOr z xs t → Filled xs
 filled_or z _ _ (lone_and xs t s) = filled_and z xs t s
 filled_or z _ _ (or xs ts s many) = filled_ands z xs ts s
 
-pub filled : (z : Text) (xs : List KLexeme) (t : KRaw) → Spells z xs t → Filled xs
+pub filled : (z : TextBytes) (xs : List KLexeme) (t : KRaw) → Spells z xs t → Filled xs
 filled z _ _ (unranked xs t s) = filled_or z xs t s
 filled z _ _ (xrank x xs ys t u cb left is right) = filled_append xs (x ∷ ys) (filled z xs t left)
 
 -- ---- what each rule's lexemes do
 
 -- reading goes on behind the first lexemes
-pub reads_on : (z : Text) (r s : Reading) (xs ys : List KLexeme) → reads z r xs ≡ s → reads z r (xs ++ ys) ≡ reads z s ys
+pub reads_on : (z : TextBytes) (r s : Reading) (xs ys : List KLexeme) → reads z r xs ≡ s → reads z r (xs ++ ys) ≡ reads z s ys
 reads_on z r s xs ys front = fold-append (shift z) r xs ys ∙ ap (λ q. reads z q ys) front
 
 -- one lexeme of a kind
-pub shifted : (z : Text) (r : Reading) (x : KLexeme) (k : KKind) → x.kind ≡ k → shift z r x ≡ shift_kind z k x.from r
+pub shifted : (z : TextBytes) (r : Reading) (x : KLexeme) (k : KKind) → x.kind ≡ k → shift z r x ≡ shift_kind z k x.from r
 shifted z r x k is = ap (λ j. shift_kind z j x.from r) is
 
-pub proximity_shift : (z : Text) (k : KKind) (n : ℕ) (o : Bool) (at : ℕ) (r : Reading) → IsProximity k n o → shift_kind z k at r ≡ at_level r (with_proximity n o r.level)
+pub proximity_shift : (z : TextBytes) (k : KKind) (n : ℕ) (o : Bool) (at : ℕ) (r : Reading) → IsProximity k n o → shift_kind z k at r ≡ at_level r (with_proximity n o r.level)
 proximity_shift z _ _ _ at r unordered = refl
 proximity_shift z _ _ _ at r ordered = refl
 
-pub sign_shift : (z : Text) (k : KKind) (s : RawSign) (at : ℕ) (r : Reading) → IsSign k s → shift_kind z k at r ≡ at_level r (with_sign s at r.level)
+pub sign_shift : (z : TextBytes) (k : KKind) (s : RawSign) (at : ℕ) (r : Reading) → IsSign k s → shift_kind z k at r ≡ at_level r (with_sign s at r.level)
 sign_shift z _ _ at r plus = refl
 sign_shift z _ _ at r minus = refl
 sign_shift z _ _ at r negation = refl
 
-abbrev pub BasicReads : Text → List KLexeme → KRaw → Type 0
+abbrev pub BasicReads : TextBytes → List KLexeme → KRaw → Type 0
 BasicReads z xs t = (l : Level) (outer : List Outer) → reads z (reading l outer) xs ≡ reading (with_operand l (placed (first_at xs) t)) outer
 
-abbrev pub ChainReads : Text → List KLexeme → KRaw → Type 0
+abbrev pub ChainReads : TextBytes → List KLexeme → KRaw → Type 0
 ChainReads z xs t = (l : Level) (outer : List Outer) → l.nearing ≡ None → reads z (reading l outer) xs ≡ reading (with_operand_by None l (placed (first_at xs) t)) outer
 
 -- an operand joins the run of a level
-pub record OperandRead (z : Text) (xs : List KLexeme) (o : Operand) (l : Level) (outer : List Outer) : Type 0 where
+pub record OperandRead (z : TextBytes) (xs : List KLexeme) (o : Operand) (l : Level) (outer : List Outer) : Type 0 where
   pub level : Level
   pub same : reads z (reading l outer) xs ≡ reading level outer
   pub nearing : level.nearing ≡ None
   pub closes : closed level ≡ join_run (closed l).first o (closed l)
 
-abbrev pub Joins : Text → List KLexeme → Operand → Type 0
+abbrev pub Joins : TextBytes → List KLexeme → Operand → Type 0
 Joins z xs o = (l : Level) (outer : List Outer) → l.nearing ≡ None → (closed l).sign ≡ None → OperandRead z xs o l outer
 
-pub record OperandReads (z : Text) (xs : List KLexeme) (o : KRawOperand) : Type 0 where
+pub record OperandReads (z : TextBytes) (xs : List KLexeme) (o : KRawOperand) : Type 0 where
   pub joined : Operand
   pub node : operand_node joined ≡ o
   pub place : joined.at ≡ first_at xs
   pub joins : Joins z xs joined
 
-pub record OperandsRead (z : Text) (xs : List KLexeme) (os : List KRawOperand) (ranking : Option Ranking) (ors ands : Parts) (outer : List Outer) : Type 0 where
+pub record OperandsRead (z : TextBytes) (xs : List KLexeme) (os : List KRawOperand) (ranking : Option Ranking) (ors ands : Parts) (outer : List Outer) : Type 0 where
   pub level : Level
   pub same : reads z (reading (start ranking ors ands) outer) xs ≡ reading level outer
   pub nearing : level.nearing ≡ None
@@ -134,54 +134,54 @@ pub record OperandsRead (z : Text) (xs : List KLexeme) (os : List KRawOperand) (
   pub place : first.at ≡ first_at xs
   pub closes : closed level ≡ running ranking ors ands first others
 
-abbrev pub OperandsReads : Text → List KLexeme → List KRawOperand → Type 0
+abbrev pub OperandsReads : TextBytes → List KLexeme → List KRawOperand → Type 0
 OperandsReads z xs os = (ranking : Option Ranking) (ors ands : Parts) (outer : List Outer) → OperandsRead z xs os ranking ors ands outer
 
 -- what stands at the end of a run
-pub record RunRead (z : Text) (xs : List KLexeme) (t : KRaw) (ranking : Option Ranking) (ors ands : Parts) (outer : List Outer) : Type 0 where
+pub record RunRead (z : TextBytes) (xs : List KLexeme) (t : KRaw) (ranking : Option Ranking) (ors ands : Parts) (outer : List Outer) : Type 0 where
   pub level : Level
   pub same : reads z (reading (start ranking ors ands) outer) xs ≡ reading level outer
   pub closes : with_and level ≡ start ranking ors (with_part ands (placed (first_at xs) t))
 
-abbrev pub RunReads : Text → List KLexeme → KRaw → Type 0
+abbrev pub RunReads : TextBytes → List KLexeme → KRaw → Type 0
 RunReads z xs t = (ranking : Option Ranking) (ors ands : Parts) (outer : List Outer) → RunRead z xs t ranking ors ands outer
 
-pub record RunsRead (z : Text) (xs : List KLexeme) (ts : List KRaw) (ranking : Option Ranking) (ors : Parts) (outer : List Outer) : Type 0 where
+pub record RunsRead (z : TextBytes) (xs : List KLexeme) (ts : List KRaw) (ranking : Option Ranking) (ors : Parts) (outer : List Outer) : Type 0 where
   pub level : Level
   pub same : reads z (reading (start ranking ors no_parts) outer) xs ≡ reading level outer
   pub closes : with_and level ≡ start ranking ors (parts (first_at xs) ts)
   pub some : (length ts == 0) ≡ false
 
-abbrev pub RunsReads : Text → List KLexeme → List KRaw → Type 0
+abbrev pub RunsReads : TextBytes → List KLexeme → List KRaw → Type 0
 RunsReads z xs ts = (ranking : Option Ranking) (ors : Parts) (outer : List Outer) → RunsRead z xs ts ranking ors outer
 
-pub record AndRead (z : Text) (xs : List KLexeme) (t : KRaw) (ranking : Option Ranking) (ors : Parts) (outer : List Outer) : Type 0 where
+pub record AndRead (z : TextBytes) (xs : List KLexeme) (t : KRaw) (ranking : Option Ranking) (ors : Parts) (outer : List Outer) : Type 0 where
   pub level : Level
   pub same : reads z (reading (start ranking ors no_parts) outer) xs ≡ reading level outer
   pub closes : with_or level ≡ start ranking (with_part ors (placed (first_at xs) t)) no_parts
 
-abbrev pub AndReads : Text → List KLexeme → KRaw → Type 0
+abbrev pub AndReads : TextBytes → List KLexeme → KRaw → Type 0
 AndReads z xs t = (ranking : Option Ranking) (ors : Parts) (outer : List Outer) → AndRead z xs t ranking ors outer
 
-pub record AndsRead (z : Text) (xs : List KLexeme) (ts : List KRaw) (ranking : Option Ranking) (outer : List Outer) : Type 0 where
+pub record AndsRead (z : TextBytes) (xs : List KLexeme) (ts : List KRaw) (ranking : Option Ranking) (outer : List Outer) : Type 0 where
   pub level : Level
   pub same : reads z (reading (start ranking no_parts no_parts) outer) xs ≡ reading level outer
   pub closes : with_or level ≡ start ranking (parts (first_at xs) ts) no_parts
   pub some : (length ts == 0) ≡ false
 
-abbrev pub AndsReads : Text → List KLexeme → List KRaw → Type 0
+abbrev pub AndsReads : TextBytes → List KLexeme → List KRaw → Type 0
 AndsReads z xs ts = (ranking : Option Ranking) (outer : List Outer) → AndsRead z xs ts ranking outer
 
 -- what stands at the end of a level
-pub record WholeRead (z : Text) (xs : List KLexeme) (t : Placed) (ranking : Option Ranking) (outer : List Outer) : Type 0 where
+pub record WholeRead (z : TextBytes) (xs : List KLexeme) (t : Placed) (ranking : Option Ranking) (outer : List Outer) : Type 0 where
   pub level : Level
   pub same : reads z (reading (start ranking no_parts no_parts) outer) xs ≡ reading level outer
   pub closes : whole level ≡ t
 
-abbrev pub OrReads : Text → List KLexeme → KRaw → Type 0
+abbrev pub OrReads : TextBytes → List KLexeme → KRaw → Type 0
 OrReads z xs t = (ranking : Option Ranking) (outer : List Outer) → WholeRead z xs (ranked_by ranking (placed (first_at xs) t)) ranking outer
 
-abbrev pub WholeReads : Text → List KLexeme → KRaw → Type 0
+abbrev pub WholeReads : TextBytes → List KLexeme → KRaw → Type 0
 WholeReads z xs t = (outer : List Outer) → WholeRead z xs (placed (first_at xs) t) None outer
 
 -- ---- basic
@@ -189,21 +189,21 @@ WholeReads z xs t = (outer : List Outer) → WholeRead z xs (placed (first_at xs
 abbrev pub listed_reading : Level → List Outer → ℕ → List Piece → Reading
 listed_reading l outer at ps = record { level = l; outer = outer; listing = Some (record { at = at; pieces = ps }) }
 
-pub items_read : (z : Text) (xs : List KLexeme) (ps : List Piece) → Lists z xs ps → (front : List Piece) (at : ℕ) (l : Level) (outer : List Outer)
+pub items_read : (z : TextBytes) (xs : List KLexeme) (ps : List Piece) → Lists z xs ps → (front : List Piece) (at : ℕ) (l : Level) (outer : List Outer)
     → reads z (listed_reading l outer at front) xs ≡ listed_reading l outer at (front ++ ps)
 items_read z _ _ no_items front at l outer = ap (listed_reading l outer at) (sym (append-nil front))
 items_read z _ _ (more_items x xs ps c is items) front at l outer =
     ap (λ r. reads z r xs) (shifted z (listed_reading l outer at front) x (kind.Free c) is)
     ∙ (items_read z xs ps items (front ++ piece z c ∷ []) at l outer ∙ ap (listed_reading l outer at) (append_assoc front (piece z c ∷ []) ps))
 
-words_read : (z : Text) (x y : KLexeme) (xs : List KLexeme) (ps : List Piece) (n : ℕ) → x.kind ≡ kind.Words n → Lists z xs ps → y.kind ≡ kind.WordsEnd
+words_read : (z : TextBytes) (x y : KLexeme) (xs : List KLexeme) (ps : List Piece) (n : ℕ) → x.kind ≡ kind.Words n → Lists z xs ps → y.kind ≡ kind.WordsEnd
     → BasicReads z (x ∷ (xs ++ y ∷ [])) (tree.Words x.from ps)
 words_read z x y xs ps n is items end l outer =
     ap (λ r. reads z r (xs ++ y ∷ [])) (shifted z (reading l outer) x (kind.Words n) is)
     ∙ (reads_on z (listed_reading l outer x.from []) (listed_reading l outer x.from ps) xs (y ∷ []) (items_read z xs ps items [] x.from l outer)
     ∙ shifted z (listed_reading l outer x.from ps) y kind.WordsEnd end)
 
-group_read : (z : Text) (x y : KLexeme) (xs : List KLexeme) (t : KRaw) → x.kind ≡ kind.LeftParen → WholeReads z xs t → y.kind ≡ kind.RightParen
+group_read : (z : TextBytes) (x y : KLexeme) (xs : List KLexeme) (t : KRaw) → x.kind ≡ kind.LeftParen → WholeReads z xs t → y.kind ≡ kind.RightParen
     → BasicReads z (x ∷ (xs ++ y ∷ [])) (tree.Group x.from t)
 group_read z x y xs t is inner end l outer =
     let around : Outer = record { level = l; at = x.from } in
@@ -217,7 +217,7 @@ group_read z x y xs t is inner end l outer =
 
 -- ---- chains
 
-basic_read : (z : Text) (xs : List KLexeme) (t : KRaw) → BasicReads z xs t → ChainReads z xs t
+basic_read : (z : TextBytes) (xs : List KLexeme) (t : KRaw) → BasicReads z xs t → ChainReads z xs t
 basic_read z xs t b l outer none = b l outer ∙ ap (λ m. reading m outer) (new_operand l (placed (first_at xs) t) none)
 
 pub near_level : (l : Level) (p q : Placed) (n : ℕ) (o : Bool) (at : ℕ) → l.nearing ≡ None → p.at ≡ at
@@ -226,7 +226,7 @@ unfolding with_operand with_proximity
 near_level l p q n o at none place =
     ap₂ (λ a b. record (closed l) { nearing = a; last = Some (placed b (tree.Near p.at p.tree q.tree n o)) }) (sym (closed_nearing l ∙ none)) place
 
-near_read : (z : Text) (x : KLexeme) (xs ys : List KLexeme) (t u : KRaw) (n : ℕ) (o : Bool) → Filled xs → ChainReads z xs t → IsProximity x.kind n o → BasicReads z ys u
+near_read : (z : TextBytes) (x : KLexeme) (xs ys : List KLexeme) (t u : KRaw) (n : ℕ) (o : Bool) → Filled xs → ChainReads z xs t → IsProximity x.kind n o → BasicReads z ys u
     → ChainReads z (xs ++ x ∷ ys) (tree.Near (first_at xs) t u n o)
 near_read z x xs ys t u n o some left is right l outer none =
     let p = placed (first_at xs) t in
@@ -245,7 +245,7 @@ joins_with : (c : Level) (p : Placed) (s : Option Sign) → c.sign ≡ s → clo
 unfolding closed
 joins_with c p s is = ap (λ q. join_run c.first (operand q p) (record c { last = Some p })) is ∙ join_last c.first (operand s p) c (Some p)
 
-plain_joins : (z : Text) (xs : List KLexeme) (t : KRaw) → ChainReads z xs t → Joins z xs (of_sign sign.Plain (first_at xs) t)
+plain_joins : (z : TextBytes) (xs : List KLexeme) (t : KRaw) → ChainReads z xs t → Joins z xs (of_sign sign.Plain (first_at xs) t)
 plain_joins z xs t chain l outer none unsigned =
     let p = placed (first_at xs) t in
     record { level = with_operand_by None l p; same = chain l outer none; nearing = closed_nearing l ∙ none; closes = joins_with (closed l) p None unsigned }
@@ -254,7 +254,7 @@ pub sign_level : (s : RawSign) (at : ℕ) (l : Level) → with_sign s at l ≡ r
 unfolding with_sign
 sign_level s at l = refl
 
-signed_joins : (z : Text) (x : KLexeme) (xs : List KLexeme) (s : RawSign) (t : KRaw) → IsSign x.kind s → ChainReads z xs t → Joins z (x ∷ xs) (of_sign s x.from t)
+signed_joins : (z : TextBytes) (x : KLexeme) (xs : List KLexeme) (s : RawSign) (t : KRaw) → IsSign x.kind s → ChainReads z xs t → Joins z (x ∷ xs) (of_sign s x.from t)
 signed_joins z x xs s t is chain l outer none unsigned =
     let p = placed (first_at xs) t in
     let waits : Sign = record { sign = s; at = x.from } in
@@ -267,7 +267,7 @@ signed_joins z x xs s t is chain l outer none unsigned =
       closes = joins_with k p (Some waits) refl ∙ join_sign (closed l).first (of_sign s x.from t) (closed l) (Some waits);
     }
 
-one_read : (z : Text) (xs : List KLexeme) (o : KRawOperand) → OperandReads z xs o → OperandsReads z xs (o ∷ [])
+one_read : (z : TextBytes) (xs : List KLexeme) (o : KRawOperand) → OperandReads z xs o → OperandsReads z xs (o ∷ [])
 one_read z xs o s ranking ors ands outer =
     let begin = closed_none (start ranking ors ands) refl in
     let r = s.joins (start ranking ors ands) outer refl (ap (λ (l : Level). l.sign) begin) in
@@ -282,7 +282,7 @@ one_read z xs o s ranking ors ands outer =
       closes = r.closes ∙ ap (λ (c : Level). join_run c.first s.joined c) begin;
     }
 
-more_read : (z : Text) (xs ys : List KLexeme) (os : List KRawOperand) (o : KRawOperand) → Filled xs → OperandsReads z xs os → OperandReads z ys o
+more_read : (z : TextBytes) (xs ys : List KLexeme) (os : List KRawOperand) (o : KRawOperand) → Filled xs → OperandsReads z xs os → OperandReads z ys o
     → OperandsReads z (xs ++ ys) (os ++ o ∷ [])
 more_read z xs ys os o some front s ranking ors ands outer =
     let f = front ranking ors ands outer in
@@ -306,7 +306,7 @@ unfolding with_and
 run_end ranking ors ands first others l p closes node = ap end_run closes ∙ ap (λ q. start ranking ors (with_part ands q)) node
 
 -- a run of one operand
-joins_run : (z : Text) (xs : List KLexeme) (o : Operand) (t : KRaw) → Joins z xs o → run_node (Some o) [] ≡ placed (first_at xs) t → RunReads z xs t
+joins_run : (z : TextBytes) (xs : List KLexeme) (o : Operand) (t : KRaw) → Joins z xs o → run_node (Some o) [] ≡ placed (first_at xs) t → RunReads z xs t
 joins_run z xs o t joins node ranking ors ands outer =
     let begin = closed_none (start ranking ors ands) refl in
     let r = joins (start ranking ors ands) outer refl (ap (λ (l : Level). l.sign) begin) in
@@ -328,7 +328,7 @@ unfolding run_node
 many_node first [] os at nodes place many = absurd (omega (arith, ap length nodes))
 many_node first (p ∷ ps) os at nodes place many = ap₂ (λ a ns. placed a (tree.Run a ns)) place nodes
 
-run_read : (z : Text) (xs : List KLexeme) (os : List KRawOperand) → OperandsReads z xs os → 2 ≤ length os → RunReads z xs (tree.Run (first_at xs) os)
+run_read : (z : TextBytes) (xs : List KLexeme) (os : List KRawOperand) → OperandsReads z xs os → 2 ≤ length os → RunReads z xs (tree.Run (first_at xs) os)
 run_read z xs os s many ranking ors ands outer =
     let r = s ranking ors ands outer in
     record { level = r.level; same = r.same; closes = run_end ranking ors ands r.first r.others r.level _ r.closes (many_node r.first r.others os (first_at xs) r.nodes r.place many) }
@@ -378,12 +378,12 @@ pub or_level : (ranking : Option Ranking) (ors : Parts) (l : Level) (p : Placed)
 unfolding whole
 or_level ranking ors l p closes node = ap end_or closes ∙ ap (ranked_by ranking) node
 
-one_run_read : (z : Text) (xs : List KLexeme) (t : KRaw) → RunReads z xs t → RunsReads z xs (t ∷ [])
+one_run_read : (z : TextBytes) (xs : List KLexeme) (t : KRaw) → RunReads z xs t → RunsReads z xs (t ∷ [])
 one_run_read z xs t s ranking ors outer =
     let r = s ranking ors no_parts outer in
     record { level = r.level; same = r.same; closes = r.closes ∙ ap (start ranking ors) (part_one (placed (first_at xs) t)); some = refl }
 
-more_runs_read : (z : Text) (x : KLexeme) (xs ys : List KLexeme) (ts : List KRaw) (t : KRaw) → Filled xs → RunsReads z xs ts → x.kind ≡ kind.And → RunReads z ys t
+more_runs_read : (z : TextBytes) (x : KLexeme) (xs ys : List KLexeme) (ts : List KRaw) (t : KRaw) → Filled xs → RunsReads z xs ts → x.kind ≡ kind.And → RunReads z ys t
     → RunsReads z (xs ++ x ∷ ys) (ts ++ t ∷ [])
 more_runs_read z x xs ys ts t some front is s ranking ors outer =
     let f = front ranking ors outer in
@@ -396,21 +396,21 @@ more_runs_read z x xs ys ts t some front is s ranking ors outer =
       some = some_more ts t;
     }
 
-lone_run_read : (z : Text) (xs : List KLexeme) (t : KRaw) → RunReads z xs t → AndReads z xs t
+lone_run_read : (z : TextBytes) (xs : List KLexeme) (t : KRaw) → RunReads z xs t → AndReads z xs t
 lone_run_read z xs t s ranking ors outer =
     let r = s ranking ors no_parts outer in
     record { level = r.level; same = r.same; closes = and_level ranking ors _ r.level _ r.closes (ap and_node (part_one (placed (first_at xs) t)) ∙ and_one (first_at xs) t) }
 
-and_read : (z : Text) (xs : List KLexeme) (ts : List KRaw) → RunsReads z xs ts → 2 ≤ length ts → AndReads z xs (tree.And (first_at xs) ts)
+and_read : (z : TextBytes) (xs : List KLexeme) (ts : List KRaw) → RunsReads z xs ts → 2 ≤ length ts → AndReads z xs (tree.And (first_at xs) ts)
 and_read z xs ts s many ranking ors outer =
     let r = s ranking ors outer in record { level = r.level; same = r.same; closes = and_level ranking ors _ r.level _ r.closes (and_many (first_at xs) ts many) }
 
-one_and_read : (z : Text) (xs : List KLexeme) (t : KRaw) → AndReads z xs t → AndsReads z xs (t ∷ [])
+one_and_read : (z : TextBytes) (xs : List KLexeme) (t : KRaw) → AndReads z xs t → AndsReads z xs (t ∷ [])
 one_and_read z xs t s ranking outer =
     let r = s ranking no_parts outer in
     record { level = r.level; same = r.same; closes = r.closes ∙ ap (λ ors. start ranking ors no_parts) (part_one (placed (first_at xs) t)); some = refl }
 
-more_ands_read : (z : Text) (x : KLexeme) (xs ys : List KLexeme) (ts : List KRaw) (t : KRaw) → Filled xs → AndsReads z xs ts → x.kind ≡ kind.Or → AndReads z ys t
+more_ands_read : (z : TextBytes) (x : KLexeme) (xs ys : List KLexeme) (ts : List KRaw) (t : KRaw) → Filled xs → AndsReads z xs ts → x.kind ≡ kind.Or → AndReads z ys t
     → AndsReads z (xs ++ x ∷ ys) (ts ++ t ∷ [])
 more_ands_read z x xs ys ts t some front is s ranking outer =
     let f = front ranking outer in
@@ -424,12 +424,12 @@ more_ands_read z x xs ys ts t some front is s ranking outer =
       some = some_more ts t;
     }
 
-lone_and_read : (z : Text) (xs : List KLexeme) (t : KRaw) → AndReads z xs t → OrReads z xs t
+lone_and_read : (z : TextBytes) (xs : List KLexeme) (t : KRaw) → AndReads z xs t → OrReads z xs t
 lone_and_read z xs t s ranking outer =
     let r = s ranking no_parts outer in
     record { level = r.level; same = r.same; closes = or_level ranking _ r.level _ r.closes (ap or_node (part_one (placed (first_at xs) t)) ∙ or_one (first_at xs) t) }
 
-or_read : (z : Text) (xs : List KLexeme) (ts : List KRaw) → AndsReads z xs ts → 2 ≤ length ts → OrReads z xs (tree.Or (first_at xs) ts)
+or_read : (z : TextBytes) (xs : List KLexeme) (ts : List KRaw) → AndsReads z xs ts → 2 ≤ length ts → OrReads z xs (tree.Or (first_at xs) ts)
 or_read z xs ts s many ranking outer =
     let r = s ranking outer in record { level = r.level; same = r.same; closes = or_level ranking _ r.level _ r.closes (or_many (first_at xs) ts many) }
 
@@ -439,7 +439,7 @@ pub xrank_level : (cb : ℤ) (l : Level) (p : Placed) → whole l ≡ p → with
 unfolding with_xrank
 xrank_level cb l p closes = ap (λ q. start (Some (record { matched = q; cb = cb })) no_parts no_parts) closes
 
-xrank_read : (z : Text) (x : KLexeme) (xs ys : List KLexeme) (t u : KRaw) (cb : ℤ) → Filled xs → WholeReads z xs t → x.kind ≡ kind.Xrank cb → OrReads z ys u
+xrank_read : (z : TextBytes) (x : KLexeme) (xs ys : List KLexeme) (t u : KRaw) (cb : ℤ) → Filled xs → WholeReads z xs t → x.kind ≡ kind.Xrank cb → OrReads z ys u
     → WholeReads z (xs ++ x ∷ ys) (tree.Xrank (first_at xs) t u cb)
 xrank_read z x xs ys t u cb some left is s outer =
     let f = left outer in
@@ -454,59 +454,59 @@ xrank_read z x xs ys t u cb some left is s outer =
 -- ---- each rule
 
 mutual
-  pub basic_reads : (z : Text) (xs : List KLexeme) (t : KRaw) → SpellsBasic z xs t → BasicReads z xs t
+  pub basic_reads : (z : TextBytes) (xs : List KLexeme) (t : KRaw) → SpellsBasic z xs t → BasicReads z xs t
   basic_reads z _ _ (free x c is) = λ l outer. shifted z (reading l outer) x (kind.Free c) is
   basic_reads z _ _ (all x is) = λ l outer. shifted z (reading l outer) x kind.All is
   basic_reads z _ _ (restrict x name_to rel c upper is) = λ l outer. shifted z (reading l outer) x (kind.Restrict name_to rel c upper) is
   basic_reads z _ _ (words x y xs ps is items end) = words_read z x y xs ps (length ps) is items end
   basic_reads z _ _ (group x y xs t is inner end) = group_read z x y xs t is (whole_reads z xs t inner) end
 
-  chain_reads : (z : Text) (xs : List KLexeme) (t : KRaw) → SpellsChain z xs t → ChainReads z xs t
+  chain_reads : (z : TextBytes) (xs : List KLexeme) (t : KRaw) → SpellsChain z xs t → ChainReads z xs t
   chain_reads z _ _ (basic xs t b) = basic_read z xs t (basic_reads z xs t b)
   chain_reads z _ _ (near x xs ys t u n o left is right) = near_read z x xs ys t u n o (filled_chain z xs t left) (chain_reads z xs t left) is (basic_reads z ys u right)
 
-  signed_reads : (z : Text) (xs : List KLexeme) (o : KRawOperand) → SpellsSigned z xs o → OperandReads z xs o
+  signed_reads : (z : TextBytes) (xs : List KLexeme) (o : KRawOperand) → SpellsSigned z xs o → OperandReads z xs o
   signed_reads z _ _ (signed x xs s t is chain) = record { joined = of_sign s x.from t; node = refl; place = refl; joins = signed_joins z x xs s t is (chain_reads z xs t chain) }
 
-  operand_reads : (z : Text) (xs : List KLexeme) (o : KRawOperand) → SpellsOperand z xs o → OperandReads z xs o
+  operand_reads : (z : TextBytes) (xs : List KLexeme) (o : KRawOperand) → SpellsOperand z xs o → OperandReads z xs o
   operand_reads z _ _ (plain xs t chain) = record { joined = of_sign sign.Plain (first_at xs) t; node = refl; place = refl; joins = plain_joins z xs t (chain_reads z xs t chain) }
   operand_reads z _ _ (behind_sign xs o s) = signed_reads z xs o s
 
-  operands_reads : (z : Text) (xs : List KLexeme) (os : List KRawOperand) → SpellsOperands z xs os → OperandsReads z xs os
+  operands_reads : (z : TextBytes) (xs : List KLexeme) (os : List KRawOperand) → SpellsOperands z xs os → OperandsReads z xs os
   operands_reads z _ _ (one_operand xs o s) = one_read z xs o (operand_reads z xs o s)
   operands_reads z _ _ (more_operands xs ys os o front last) =
       more_read z xs ys os o (filled_operands z xs os front) (operands_reads z xs os front) (operand_reads z ys o last)
 
-  run_reads : (z : Text) (xs : List KLexeme) (t : KRaw) → SpellsRun z xs t → RunReads z xs t
+  run_reads : (z : TextBytes) (xs : List KLexeme) (t : KRaw) → SpellsRun z xs t → RunReads z xs t
   run_reads z _ _ (lone xs t chain) = joins_run z xs (of_sign sign.Plain (first_at xs) t) t (plain_joins z xs t (chain_reads z xs t chain)) (plain_node (first_at xs) t)
   run_reads z _ _ (lone_signed _ _ (signed x xs s t is chain)) =
       joins_run z (x ∷ xs) (of_sign s x.from t) _ (signed_joins z x xs s t is (chain_reads z xs t chain)) (signed_node x.kind s x.from t is)
   run_reads z _ _ (run xs os s many) = run_read z xs os (operands_reads z xs os s) many
 
-  runs_reads : (z : Text) (xs : List KLexeme) (ts : List KRaw) → SpellsRuns z xs ts → RunsReads z xs ts
+  runs_reads : (z : TextBytes) (xs : List KLexeme) (ts : List KRaw) → SpellsRuns z xs ts → RunsReads z xs ts
   runs_reads z _ _ (one_run xs t s) = one_run_read z xs t (run_reads z xs t s)
   runs_reads z _ _ (more_runs x xs ys ts t front is last) =
       more_runs_read z x xs ys ts t (filled_runs z xs ts front) (runs_reads z xs ts front) is (run_reads z ys t last)
 
-  and_reads : (z : Text) (xs : List KLexeme) (t : KRaw) → SpellsAnd z xs t → AndReads z xs t
+  and_reads : (z : TextBytes) (xs : List KLexeme) (t : KRaw) → SpellsAnd z xs t → AndReads z xs t
   and_reads z _ _ (lone_run xs t s) = lone_run_read z xs t (run_reads z xs t s)
   and_reads z _ _ (and xs ts s many) = and_read z xs ts (runs_reads z xs ts s) many
 
-  ands_reads : (z : Text) (xs : List KLexeme) (ts : List KRaw) → SpellsAnds z xs ts → AndsReads z xs ts
+  ands_reads : (z : TextBytes) (xs : List KLexeme) (ts : List KRaw) → SpellsAnds z xs ts → AndsReads z xs ts
   ands_reads z _ _ (one_and xs t s) = one_and_read z xs t (and_reads z xs t s)
   ands_reads z _ _ (more_ands x xs ys ts t front is last) =
       more_ands_read z x xs ys ts t (filled_ands z xs ts front) (ands_reads z xs ts front) is (and_reads z ys t last)
 
-  or_reads : (z : Text) (xs : List KLexeme) (t : KRaw) → SpellsOr z xs t → OrReads z xs t
+  or_reads : (z : TextBytes) (xs : List KLexeme) (t : KRaw) → SpellsOr z xs t → OrReads z xs t
   or_reads z _ _ (lone_and xs t s) = lone_and_read z xs t (and_reads z xs t s)
   or_reads z _ _ (or xs ts s many) = or_read z xs ts (ands_reads z xs ts s) many
 
-  whole_reads : (z : Text) (xs : List KLexeme) (t : KRaw) → Spells z xs t → WholeReads z xs t
+  whole_reads : (z : TextBytes) (xs : List KLexeme) (t : KRaw) → Spells z xs t → WholeReads z xs t
   whole_reads z _ _ (unranked xs t s) = λ outer. or_reads z xs t s None outer
   whole_reads z _ _ (xrank x xs ys t u cb left is right) = xrank_read z x xs ys t u cb (filled z xs t left) (whole_reads z xs t left) is (or_reads z ys u right)
 
 -- lexemes spell at most one tree, the one that is read
-pub spells_read : (z : Text) (xs : List KLexeme) (t : KRaw) → Spells z xs t → t ≡ tree_of z xs
+pub spells_read : (z : TextBytes) (xs : List KLexeme) (t : KRaw) → Spells z xs t → t ≡ tree_of z xs
 unfolding tree_of
 spells_read z xs t s =
     let w = whole_reads z xs t s [] in

@@ -6,7 +6,7 @@ use Rattle.sq_lex.specs.declared.lexeme.Relation.{Relation}
 use Rattle.sq_lex.specs.declared.lexeme.KKind.{KKind}
 use Rattle.sq_lex.specs.declared.lexeme.KKind.TheVariants as kind
 use Rattle.sq_lex.specs.declared.lexeme.KLexeme.{KLexeme}
-use Rattle.sq_lex.specs.Bytes.{Text}
+use Rattle.sq_lex.specs.Bytes.{TextBytes}
 use Rattle.sq_base.specs.Outcome.{Outcome, ◌>>=◌, ◌>>◌}
 use Rattle.sq_lex.specs.Kql.{lexemes_of}
 use Rattle.sq_kql.specs.declared.raw.Piece.{Piece}
@@ -176,11 +176,11 @@ abbrev pub with_close : Option (List Outer × Outer) → Reading → Reading
 with_close None r = r
 with_close (Some (os, o)) r = record r { level = with_operand o.level (group_node o.at r.level); outer = os }
 
-abbrev pub restriction_node : Text → ℕ → ℕ → Relation → Cut → Option Cut → Placed
+abbrev pub restriction_node : TextBytes → ℕ → ℕ → Relation → Cut → Option Cut → Placed
 restriction_node z at name_to rel c upper = placed at (tree.Restrict at (slice_range z at name_to) rel (piece z c) (option_map (piece z) upper))
 
 -- a level behind one more lexeme
-abbrev pub shift_level : Text → KKind → ℕ → Level → Level
+abbrev pub shift_level : TextBytes → KKind → ℕ → Level → Level
 shift_level z kind.All at l = with_operand l (placed at (tree.All at))
 shift_level z (kind.Restrict name_to rel c upper) at l = with_operand l (restriction_node z at name_to rel c upper)
 shift_level z kind.Plus at l = with_sign sign.Plus at l
@@ -194,7 +194,7 @@ shift_level z (kind.Xrank cb) at l = with_xrank cb l
 shift_level z _ at l = l
 
 -- what is read behind one more lexeme
-abbrev pub shift_kind : Text → KKind → ℕ → Reading → Reading
+abbrev pub shift_kind : TextBytes → KKind → ℕ → Reading → Reading
 shift_kind z (kind.Free c) at r = with_free r.listing at (piece z c) r
 shift_kind z (kind.Words count) at r = record r { listing = Some (record { at = at; pieces = [] }) }
 shift_kind z kind.WordsEnd at r = with_list r.listing r
@@ -202,18 +202,18 @@ shift_kind z kind.LeftParen at r = with_open at r
 shift_kind z kind.RightParen at r = with_close (split_last r.outer) r
 shift_kind z k at r = at_level r (shift_level z k at r.level)
 
-abbrev pub shift : Text → Reading → KLexeme → Reading
+abbrev pub shift : TextBytes → Reading → KLexeme → Reading
 shift z r x = shift_kind z x.kind x.from r
 
 abbrev pub nothing_read : Reading
 nothing_read = record { level = fresh None; outer = []; listing = None }
 
 -- the tree of lexemes that stand in order
-unfoldable pub tree_of : Text → List KLexeme → KRaw
+unfoldable pub tree_of : TextBytes → List KLexeme → KRaw
 tree_of z xs = (whole (fold (shift z) nothing_read xs).level).tree
 
 -- the tree of a text, or its first fault: of its lexemes, and then of their order
-unfoldable pub read_of : Text → Outcome KRaw
+unfoldable pub read_of : TextBytes → Outcome KRaw
 read_of z = do
   xs ← lexemes_of z
   order (length z) xs

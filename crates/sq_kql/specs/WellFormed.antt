@@ -1,6 +1,7 @@
 -- Trees that reading may give.
 use Rattle.std.specs.Prelude.{◌≡◌, ◌≢◌, ℕ, ◌+◌, ◌≤◌, ◌<◌, unsigned_abs, [], length, fold, Option, Some, None, is_some, IfSome}
 use Rattle.std.specs.List.{AllByRecursion}
+use Rattle.sq_base.specs.Limits.{greatest_distance, greatest_boost, kql_byte_bound, kql_node_bound}
 use Rattle.sq_tokens.specs.Token.{text_tokens}
 use Rattle.sq_tokens.specs.Pattern.{without_good_star, first_bad_star}
 use Rattle.sq_lex.specs.Shape.{is_range}
@@ -32,11 +33,11 @@ abbrev mutual
   HasForm (Words at ps) = (ps ≢ []) × AllByRecursion IsPattern ps
   HasForm (Group' at s inside) = HaveForm inside
   HasForm (Restrict at name rel value upper) = IsStarless value × IfSome upper IsStarless × (is_some upper ≡ is_range rel)
-  HasForm (Near' at s left t right n ordered) = HaveForm left × HaveForm right × (n ≤ 1000)
+  HasForm (Near' at s left t right n ordered) = HaveForm left × HaveForm right × (n ≤ greatest_distance)
   HasForm (Run' at s operands) = AreSomeOperands operands × OperandsHaveForm operands
   HasForm (And' at s parts) = AreSome parts × HaveForm parts
   HasForm (Or' at s parts) = AreSome parts × HaveForm parts
-  HasForm (Xrank' at s matched t ranked cb) = HaveForm matched × HaveForm ranked × (unsigned_abs cb ≤ 1_000_000)
+  HasForm (Xrank' at s matched t ranked cb) = HaveForm matched × HaveForm ranked × (unsigned_abs cb ≤ greatest_boost)
 
   pub HaveForm : {m : _} → Row_of-KRaw m → Type 0
   HaveForm end_of-KRaw = Unit {0}
@@ -95,5 +96,5 @@ abbrev mutual
 
 pub record IsWellFormed (t : KRaw) : Type 0 where
   pub form : HasForm t
-  pub few_bytes : bytes t < 1_000_000
-  pub few_nodes : nodes t < 1_000_000
+  pub few_bytes : bytes t < kql_byte_bound
+  pub few_nodes : nodes t < kql_node_bound

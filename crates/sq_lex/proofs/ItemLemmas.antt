@@ -12,33 +12,34 @@ use Rattle.sq_lex.specs.declared.codes.TheConstants.{BAD_PARAMETER, BAD_WORDS}
 use Rattle.sq_lex.specs.declared.lexeme.Cut.{Cut}
 use Rattle.sq_lex.specs.declared.xrank.Boost.TheVariants as boost
 use Rattle.sq_lex.specs.declared.xrank.Parameter.{Parameter}
-use Rattle.sq_lex.specs.Bytes.{Text, is_in, past, digits_value}
+use Rattle.sq_lex.specs.Bytes.{TextBytes, is_in, past, digits_value}
 use Rattle.sq_base.specs.Outcome.{Outcome, refused, or_refused}
-use Rattle.sq_lex.specs.Kql.{Item, cut, past_cut, cut_at, quoted, number, signed_number, separator, listed, boost_named, max_boost, parameter, has_boost, next_parameter, parameters, signed_of, parameter_of, is_other, no_other, is_good_n, same_boost, constant_boost, word_value, item, next_item, items}
+use Rattle.sq_base.specs.Limits.{greatest_boost}
+use Rattle.sq_lex.specs.Kql.{Item, cut, past_cut, cut_at, quoted, number, signed_number, separator, listed, boost_named, parameter, has_boost, next_parameter, parameters, signed_of, parameter_of, is_other, no_other, is_good_n, same_boost, constant_boost, word_value, item, next_item, items}
 use Rattle.sq_lex.specs.Places.{Fills}
 use Rattle.sq_lex.proofs.PieceLemmas.{pieces_push}
 use Rattle.sq_lex.proofs.OutcomeLemmas.{if_bind, if_test, if_ok, if_each, if_value, or_some}
 
 -- ---- runs of bytes
 
-pub past_on : (c : Class) (z : Text) (at : ℕ) → at ≤ past c z at
+pub past_on : (c : Class) (z : TextBytes) (at : ℕ) → at ≤ past c z at
 unfolding past
 past_on c z at = omega arith
 
-pub past_within : (c : Class) (z : Text) (at : ℕ) → at ≤ length z → past c z at ≤ length z
+pub past_within : (c : Class) (z : TextBytes) (at : ℕ) → at ≤ length z → past c z at ≤ length z
 unfolding past
 past_within c z at within =
     let room : prefix_len (is_in c) (drop at z) ≤ length (drop at z) = prefix_len-le-length (is_in c) (drop at z) in
     omega (arith, room, length-drop at z, within)
 
-pub past_moves : (c : Class) (z : Text) (at : ℕ) → at < length z → is_in c (slice_index z at) ≡ true → at < past c z at
+pub past_moves : (c : Class) (z : TextBytes) (at : ℕ) → at < length z → is_in c (slice_index z at) ≡ true → at < past c z at
 unfolding past
 past_moves c z at within is = omega (arith, prefix_len-drop_yes (is_in c) z at 0 within is)
 
-by_byte : (z : Text) (at b : ℕ) → 0 < b → get_or z at 0 ≡ b → at < length z
+by_byte : (z : TextBytes) (at b : ℕ) → 0 < b → get_or z at 0 ≡ b → at < length z
 by_byte z at b some is = grind (arith, get_or-eq_default)
 
-pub byte_within : (z : Text) (at b : ℕ) → 0 < b → (slice_index z at == b) ≡ true → at < length z
+pub byte_within : (z : TextBytes) (at b : ℕ) → 0 < b → (slice_index z at == b) ≡ true → at < length z
 byte_within z at b some is = let e : get_or z at 0 ≡ b = grind (arith, nat_tests) in by_byte z at b some e
 
 -- ---- numbers
@@ -52,7 +53,7 @@ number_by true true value limit n h = within_limit (nat_le value limit) value li
 number_by true false value limit n h = absurd cc
 number_by false b value limit n h = absurd cc
 
-pub number_within : (z : Text) (from to limit n : ℕ) → number z from to limit ≡ Some n → n ≤ limit
+pub number_within : (z : TextBytes) (from to limit n : ℕ) → number z from to limit ≡ Some n → n ≤ limit
 unfolding number
 number_within z from to limit n h = number_by (nat_lt from to) (past class.Digit z from == to) (digits_value (slice_range z from to)) limit n h
 
@@ -72,7 +73,7 @@ size_of_negative : (n : ℕ) → unsigned_abs (neg_ℤ (pos n)) ≡ n
 size_of_negative zero = refl
 size_of_negative (suc n) = refl
 
-signed_within : (z : Text) (from to limit : ℕ) → IsLimited limit (signed_number z from to limit)
+signed_within : (z : TextBytes) (from to limit : ℕ) → IsLimited limit (signed_number z from to limit)
 unfolding signed_number
 signed_within z from to limit =
     limited_by (slice_index z from == 45) (option_map (λ n. neg_ℤ (pos n)) (number z (from + 1) to limit)) (option_map pos (number z from to limit)) limit
@@ -81,10 +82,10 @@ signed_within z from to limit =
 
 -- ---- lists with commas
 
-abbrev IsSeparated : Text → ℕ → Bool × ℕ → Type 0
+abbrev IsSeparated : TextBytes → ℕ → Bool × ℕ → Type 0
 IsSeparated z to s = (to ≤ s.1) × (s.1 < length z)
 
-pub separated : (z : Text) (code word to : ℕ) → IfOk (separator z code word to) (IsSeparated z to)
+pub separated : (z : TextBytes) (code word to : ℕ) → IfOk (separator z code word to) (IsSeparated z to)
 unfolding separator
 separated z code word to =
     let next = past class.Blank z to in
@@ -108,12 +109,12 @@ listed_all next size P Q step more short (suc turns) at found enough begun =
 -- ---- the parameters of XRANK
 
 abbrev IsGoodParameter : Parameter → Type 0
-IsGoodParameter p = IsLimited max_boost p.signed
+IsGoodParameter p = IsLimited greatest_boost p.signed
 
 abbrev IsParameter : ℕ → Parameter × ℕ → Type 0
 IsParameter at p = (at ≤ p.1) × IsGoodParameter p.0
 
-parameter_good : (z : Text) (word at : ℕ) → IfOk (parameter z word at) (IsParameter at)
+parameter_good : (z : TextBytes) (word at : ℕ) → IfOk (parameter z word at) (IsParameter at)
 unfolding parameter
 parameter_good z word at =
     let name_to = past class.Parameter z at in
@@ -122,13 +123,13 @@ parameter_good z word at =
     let to = past class.Item z from in
     if_test (slice_index z equals == 61 && nat_lt from to) _ _ (IsParameter at)
     (λ yes. if_bind (or_refused (boost_named (slice_range z at name_to)) BAD_PARAMETER word) _ (IsParameter at) (λ name is.
-    (omega (arith, past_on class.Parameter z at, past_on class.Blank z name_to, past_on class.Blank z (equals + 1), past_on class.Item z from), signed_within z from to max_boost)))
+    (omega (arith, past_on class.Parameter z at, past_on class.Blank z name_to, past_on class.Blank z (equals + 1), past_on class.Item z from), signed_within z from to greatest_boost)))
     (λ no. tt)
 
-abbrev IsNextParameter : Text → ℕ → Item Parameter → Type 0
+abbrev IsNextParameter : TextBytes → ℕ → Item Parameter → Type 0
 IsNextParameter z at x = (at ≤ x.2) × (x.2 < length z) × IsGoodParameter x.0
 
-next_good : (z : Text) (word at : ℕ) (found : List Parameter) → IfOk (next_parameter z word at found) (IsNextParameter z at)
+next_good : (z : TextBytes) (word at : ℕ) (found : List Parameter) → IfOk (next_parameter z word at found) (IsNextParameter z at)
 unfolding next_parameter
 next_good z word at found =
     let begin = past class.Blank z at in
@@ -141,18 +142,18 @@ next_good z word at found =
     (omega (arith, past_on class.Blank z at, good.0, place.0), place.1, good.1)))
 
 -- the parameters up to a place in the text
-pub record AreParameters (z : Text) (from to : ℕ) (ps : List Parameter) : Type 0 where
+pub record AreParameters (z : TextBytes) (from to : ℕ) (ps : List Parameter) : Type 0 where
   pub ordered : from ≤ to
   pub within : to ≤ length z
   pub good : AllByRecursion IsGoodParameter ps
 
 -- the same, with the place of a byte
-pub record AreListedParameters (z : Text) (from to : ℕ) (ps : List Parameter) : Type 0 where
+pub record AreListedParameters (z : TextBytes) (from to : ℕ) (ps : List Parameter) : Type 0 where
   pub ordered : from ≤ to
   pub below : to < length z
   pub good : AllByRecursion IsGoodParameter ps
 
-pub parameters_good : (z : Text) (word at : ℕ) → at ≤ length z → IfOk (parameters z word at) (λ l. AreListedParameters z at l.1 l.0)
+pub parameters_good : (z : TextBytes) (word at : ℕ) → at ≤ length z → IfOk (parameters z word at) (λ l. AreListedParameters z at l.1 l.0)
 unfolding parameters
 parameters_good z word at within =
     listed_all (next_parameter z word) (length z) (AreListedParameters z at) (AreParameters z at)
@@ -171,21 +172,21 @@ find_good : (P : Parameter → Type 0) (f : Parameter → Bool) (ps : List Param
 find_good P f [] each = tt
 find_good P f (p ∷ ps) each = found_by P (f p) p (find f ps) each.0 (find_good P f ps each.1)
 
-signed_limited : (o : Option Parameter) → IfSome o IsGoodParameter → IsLimited max_boost (signed_of o)
+signed_limited : (o : Option Parameter) → IfSome o IsGoodParameter → IsLimited greatest_boost (signed_of o)
 signed_limited None good = tt
 signed_limited (Some p) good = good
 
 limited_some : (o : Option ℤ) (limit : ℕ) (n : ℤ) → o ≡ Some n → IsLimited limit o → unsigned_abs n ≤ limit
 limited_some o limit n is h = let Of : Option ℤ → Type 0 = λ p. IsLimited limit p in subst Of is h
 
-pub constant_within : (word : ℕ) (ps : List Parameter) → AllByRecursion IsGoodParameter ps → IfOk (constant_boost word ps) (λ cb. unsigned_abs cb ≤ max_boost)
+pub constant_within : (word : ℕ) (ps : List Parameter) → AllByRecursion IsGoodParameter ps → IfOk (constant_boost word ps) (λ cb. unsigned_abs cb ≤ greatest_boost)
 unfolding constant_boost
 constant_within word ps good =
-    let Within : ℤ → Type 0 = λ cb. unsigned_abs cb ≤ max_boost in
+    let Within : ℤ → Type 0 = λ cb. unsigned_abs cb ≤ greatest_boost in
     let chosen = parameter_of boost.Cb ps in
     if_bind (no_other (find (λ p. is_other p.boost) ps)) _ Within (λ done none. if_bind (or_refused (signed_of chosen) BAD_PARAMETER word) _ Within (λ cb is.
     if_test (is_good_n (parameter_of boost.N ps)) _ _ Within
-    (λ yes. limited_some (signed_of chosen) max_boost cb (or_some (signed_of chosen) BAD_PARAMETER word cb is)
+    (λ yes. limited_some (signed_of chosen) greatest_boost cb (or_some (signed_of chosen) BAD_PARAMETER word cb is)
     (signed_limited chosen (find_good IsGoodParameter (λ p. same_boost p.boost boost.Cb) ps good)))
     (λ no. tt)))
 
@@ -214,23 +215,23 @@ word_item false at to c is h = absurd cc
 abbrev IsItemAt : ℕ → Cut → Type 0
 IsItemAt at c = (at ≤ cut_at c) × IsItem c
 
-quoted_good : (z : Text) (at : ℕ) → IfOk (quoted z at) (IsItemAt at)
+quoted_good : (z : TextBytes) (at : ℕ) → IfOk (quoted z at) (IsItemAt at)
 unfolding quoted
 quoted_good z at =
     let to = past class.Quoted z (at + 1) in
     if_test (nat_lt to (length z)) _ _ (IsItemAt at) (λ yes. quoted_item at to (past_on class.Quoted z (at + 1))) (λ no. tt)
 
-item_good : (z : Text) (word at : ℕ) → IfOk (item z word at) (IsItemAt at)
+item_good : (z : TextBytes) (word at : ℕ) → IfOk (item z word at) (IsItemAt at)
 unfolding item
 item_good z word at =
     if_test (slice_index z at == 34) _ _ (IsItemAt at)
     (λ yes. quoted_good z at)
     (λ no. if_value (word_value at (past class.Item z at)) BAD_WORDS word (IsItemAt at) (λ c is. word_item (nat_lt at (past class.Item z at)) at (past class.Item z at) c refl is))
 
-abbrev IsNextItem : Text → ℕ → Item Cut → Type 0
+abbrev IsNextItem : TextBytes → ℕ → Item Cut → Type 0
 IsNextItem z at x = (at ≤ cut_at x.0) × IsItem x.0 × (past_cut x.0 ≤ x.2) × (x.2 < length z)
 
-next_item_good : (z : Text) (word at : ℕ) (found : List Cut) → IfOk (next_item z word at found) (IsNextItem z at)
+next_item_good : (z : TextBytes) (word at : ℕ) (found : List Cut) → IfOk (next_item z word at found) (IsNextItem z at)
 unfolding next_item
 next_item_good z word at found =
     let begin = past class.Blank z at in
@@ -248,17 +249,17 @@ cuts_later : (from at to : ℕ) (cs : List Cut) → CutsBetween from at cs → a
 cuts_later from at to [] all more = omega (arith, all, more)
 cuts_later from at to (c ∷ cs) all more = (all.0, all.1, cuts_later (past_cut c) at to cs all.2 more)
 
-record AreFound (z : Text) (from to : ℕ) (cs : List Cut) : Type 0 where
+record AreFound (z : TextBytes) (from to : ℕ) (cs : List Cut) : Type 0 where
   pub rising : CutsBetween from to cs
   pub within : to ≤ length z
 
 -- the items of a list, and the place of the byte behind
-pub record AreListedItems (z : Text) (from to : ℕ) (cs : List Cut) : Type 0 where
+pub record AreListedItems (z : TextBytes) (from to : ℕ) (cs : List Cut) : Type 0 where
   pub rising : CutsBetween from to cs
   pub below : to < length z
   pub some : 1 ≤ length cs
 
-pub items_good : (z : Text) (word at : ℕ) → at ≤ length z → IfOk (items z word at) (λ l. AreListedItems z at l.1 l.0)
+pub items_good : (z : TextBytes) (word at : ℕ) → at ≤ length z → IfOk (items z word at) (λ l. AreListedItems z at l.1 l.0)
 unfolding items
 items_good z word at within =
     listed_all (next_item z word) (length z) (AreListedItems z at) (AreFound z at)

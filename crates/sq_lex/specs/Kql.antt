@@ -7,7 +7,7 @@ use Rattle.std.specs.Str.{bytes_eq, str_eq_ignore_ascii_case}
 use Rattle.sq_tokens.specs.Token.{text_tokens}
 use Rattle.sq_tokens.specs.Pattern.{without_good_star, first_bad_star}
 use Rattle.sq_lex.specs.declared.class.Class.TheVariants as class
-use Rattle.sq_lex.specs.declared.codes.TheConstants.{TOO_LONG, UNCLOSED_STRING, BAD_PARAMETER, OTHER_BOOST, BAD_WORDS, MISSING_VALUE, BAD_STAR, MAX_TEXT}
+use Rattle.sq_lex.specs.declared.codes.TheConstants.{TOO_LONG, UNCLOSED_STRING, BAD_PARAMETER, OTHER_BOOST, BAD_WORDS, MISSING_VALUE, BAD_STAR}
 use Rattle.sq_lex.specs.declared.lexeme.Cut.{Cut}
 use Rattle.sq_lex.specs.declared.lexeme.Relation.{Relation}
 use Rattle.sq_lex.specs.declared.lexeme.Relation.TheVariants as relation
@@ -23,8 +23,10 @@ use Rattle.sq_lex.specs.declared.xrank.Parameter.{Parameter}
 use Rattle.sq_lex.specs.declared.restriction.Head.{Head}
 use Rattle.sq_lex.specs.declared.restriction.Bounds.{Bounds}
 use denote.Enum.Bare.{sameb}
-use Rattle.sq_lex.specs.Bytes.{Text, is_blank, past, digits_value}
+use Rattle.sq_lex.specs.Bytes.{TextBytes, is_blank, past, digits_value}
+use Rattle.sq_lex.specs.Limits.{most_text_bytes, kql_distance}
 use Rattle.sq_base.specs.Outcome.{Outcome, refused, ◌>>=◌, ◌>>◌, or_refused}
+use Rattle.sq_base.specs.Limits.{greatest_distance, greatest_boost}
 
 -- ---- what a rule takes
 
@@ -44,7 +46,7 @@ blank to = ([], to)
 abbrev pub cut : ℕ → ℕ → Bool → Cut
 cut from to quoted = record { from = from; to = to; quoted = quoted }
 
-abbrev pub cut_text : Text → Cut → Text
+abbrev pub cut_text : TextBytes → Cut → TextBytes
 cut_text z c = slice_range z c.from c.to
 
 -- the place behind a piece, and behind its closing quote where it is quoted
@@ -66,20 +68,20 @@ starless from (Some star) has = refused BAD_STAR (from + star)
 starless from None has = Ok has
 
 -- whether a piece has a token; one with a bad star is refused at the first
-unfoldable pub judged : Text → Cut → Outcome Bool
+unfoldable pub judged : TextBytes → Cut → Outcome Bool
 judged z c = starless c.from (first_bad_star (cut_text z c)) (has_some (text_tokens (without_good_star (cut_text z c))))
 
 -- free text, from the place where its lexeme begins
-unfoldable pub free : Text → ℕ → Cut → Outcome Taken
+unfoldable pub free : TextBytes → ℕ → Cut → Outcome Taken
 free z at c = do
   has ← judged z c
   Ok (if has then one (kind.Free c) at (past_cut c) else blank (past_cut c))
 
 -- the text inside the quotes that open at a place
-unfoldable pub quoted : Text → ℕ → Outcome Cut
+unfoldable pub quoted : TextBytes → ℕ → Outcome Cut
 quoted z at = let to = past class.Quoted z (at + 1) in if nat_lt to (length z) then Ok (cut (at + 1) to true) else refused UNCLOSED_STRING at
 
-unfoldable pub phrase : Text → ℕ → Outcome Taken
+unfoldable pub phrase : TextBytes → ℕ → Outcome Taken
 phrase z at = quoted z at >>= free z at
 
 -- ---- signs
@@ -88,28 +90,28 @@ abbrev pub sign : ℕ → KKind
 sign b = if b == 43 then kind.Plus else kind.Minus
 
 -- the run of signs ends at the end, at white space or at `)`
-abbrev pub ends_idle : Text → ℕ → Bool
+abbrev pub ends_idle : TextBytes → ℕ → Bool
 ends_idle z to = nat_le (length z) to || is_blank (slice_index z to) || slice_index z to == 41
 
 -- a lexeme for each byte of a run of signs that begins at a place
-abbrev pub sign_lexemes : ℕ → Text → List KLexeme
+abbrev pub sign_lexemes : ℕ → TextBytes → List KLexeme
 sign_lexemes at [] = []
 sign_lexemes at (b ∷ bs) = lexeme (sign b) at (at + 1) ∷ sign_lexemes (at + 1) bs
 
 -- a run of signs before the end, white space or `)` is white space, and else each of its bytes is a sign
-unfoldable pub signs : Text → ℕ → Taken
+unfoldable pub signs : TextBytes → ℕ → Taken
 signs z at = let to = past class.Sign z at in if ends_idle z to then blank to else (sign_lexemes at (slice_range z at to), to)
 
 -- ---- numbers
 
 -- the value of one or more digits that is at most the limit
-unfoldable pub number : Text → ℕ → ℕ → ℕ → Option ℕ
+unfoldable pub number : TextBytes → ℕ → ℕ → ℕ → Option ℕ
 number z from to limit =
     let value = digits_value (slice_range z from to) in
     if nat_lt from to && (past class.Digit z from == to && nat_le value limit) then Some value else None
 
 -- the value of digits, behind a minus sign or not, that is at most the limit in size
-unfoldable pub signed_number : Text → ℕ → ℕ → ℕ → Option ℤ
+unfoldable pub signed_number : TextBytes → ℕ → ℕ → ℕ → Option ℤ
 signed_number z from to limit =
     if slice_index z from == 45 then option_map (λ n. neg_ℤ (pos n)) (number z (from + 1) to limit) else option_map pos (number z from to limit)
 
@@ -120,7 +122,7 @@ abbrev pub Item : Type 0 → Type 0
 Item X = X × Bool × ℕ
 
 -- Whether a comma or `)` stands behind an item that ends at a place, and the place of that; else a fault at the list's word.
-unfoldable pub separator : Text → ℕ → ℕ → ℕ → Outcome (Bool × ℕ)
+unfoldable pub separator : TextBytes → ℕ → ℕ → ℕ → Outcome (Bool × ℕ)
 separator z code word to =
     let next = past class.Blank z to in
     if slice_index z next == 44 then Ok (true, next) else (if slice_index z next == 41 then Ok (false, next) else refused code word)
@@ -136,32 +138,32 @@ listed next (suc turns) at found = do
 -- ---- NEAR and ONEAR
 
 -- the place of the digits in a list that begins at a place: `n` and `=` may stand before them
-unfoldable pub near_digits : Text → ℕ → ℕ
+unfoldable pub near_digits : TextBytes → ℕ → ℕ
 near_digits z at =
     let name = past class.Blank z at in
     let equals = past class.Blank z (name + 1) in
     if slice_index z name == 110 && slice_index z equals == 61 then past class.Blank z (equals + 1) else name
 
 -- the number of a list that begins at a place, and the place behind its `)`; the operator's word begins at `word`
-unfoldable pub near_list : Text → ℕ → ℕ → Outcome (ℕ × ℕ)
+unfoldable pub near_list : TextBytes → ℕ → ℕ → Outcome (ℕ × ℕ)
 near_list z word at =
     let from = near_digits z at in
     let to = past class.Digit z from in
     let close = past class.Blank z to in
-    if slice_index z close == 41 then (do n ← or_refused (number z from to 1000) BAD_PARAMETER word; Ok (n, close + 1)) else refused BAD_PARAMETER word
+    if slice_index z close == 41 then (do n ← or_refused (number z from to greatest_distance) BAD_PARAMETER word; Ok (n, close + 1)) else refused BAD_PARAMETER word
 
 abbrev pub near_kind : Bool → ℕ → KKind
 near_kind ordered n = if ordered then kind.Onear n else kind.Near n
 
 -- the operator whose word stands from `at` to `to`
-unfoldable pub near : Text → Bool → ℕ → ℕ → Outcome Taken
+unfoldable pub near : TextBytes → Bool → ℕ → ℕ → Outcome Taken
 near z ordered at to =
     if slice_index z to == 40 then (do list ← near_list z at (to + 1); Ok (one (near_kind ordered list.0) at list.1))
-    else Ok (one (near_kind ordered 8) at to)
+    else Ok (one (near_kind ordered kql_distance) at to)
 
 -- ---- XRANK
 
-unfoldable pub boost_named : Text → Option Boost
+unfoldable pub boost_named : TextBytes → Option Boost
 boost_named name =
     if str_eq_ignore_ascii_case name (codes "cb") then Some boost.Cb
     else (if str_eq_ignore_ascii_case name (codes "rb") then Some boost.Rb
@@ -180,12 +182,8 @@ is_other _ = true
 unfoldable pub same_boost : Boost → Boost → Bool
 same_boost = sameb the_type
 
--- the greatest size of a boost, and the greatest `n`
-abbrev pub max_boost : ℕ
-max_boost = 1000000
-
--- the parameter whose name begins at a place, and the place behind it
-unfoldable pub parameter : Text → ℕ → ℕ → Outcome (Parameter × ℕ)
+-- the parameter whose name begins at a place, and the place behind it; the greatest `n` is the greatest size of a boost
+unfoldable pub parameter : TextBytes → ℕ → ℕ → Outcome (Parameter × ℕ)
 parameter z word at =
     let name_to = past class.Parameter z at in
     let equals = past class.Blank z name_to in
@@ -194,7 +192,7 @@ parameter z word at =
     if slice_index z equals == 61 && nat_lt from to
     then (do
       name ← or_refused (boost_named (slice_range z at name_to)) BAD_PARAMETER word
-      Ok (record { boost = name; at = at; signed = signed_number z from to max_boost; whole = number z from to max_boost }, to))
+      Ok (record { boost = name; at = at; signed = signed_number z from to greatest_boost; whole = number z from to greatest_boost }, to))
     else refused BAD_PARAMETER word
 
 -- a name that stands among the parameters found
@@ -202,13 +200,13 @@ abbrev pub has_boost : Boost → List Parameter → Bool
 has_boost b found = list_any (λ q. same_boost q.boost b) found
 
 -- the next parameter, whose name is new
-unfoldable pub next_parameter : Text → ℕ → ℕ → List Parameter → Outcome (Item Parameter)
+unfoldable pub next_parameter : TextBytes → ℕ → ℕ → List Parameter → Outcome (Item Parameter)
 next_parameter z word at found = do
   p ← parameter z word (past class.Blank z at)
   s ← if has_boost p.0.boost found then refused BAD_PARAMETER word else separator z BAD_PARAMETER word p.1
   Ok (p.0, s.0, s.1)
 
-unfoldable pub parameters : Text → ℕ → ℕ → Outcome (List Parameter × ℕ)
+unfoldable pub parameters : TextBytes → ℕ → ℕ → Outcome (List Parameter × ℕ)
 parameters z word at = listed (next_parameter z word) (suc (length z)) at []
 
 abbrev pub signed_of : Option Parameter → Option ℤ
@@ -235,7 +233,7 @@ constant_boost word ps = do
   if is_good_n (parameter_of boost.N ps) then Ok cb else refused BAD_PARAMETER word
 
 -- the operator whose word stands from `at` to `to`
-unfoldable pub xrank : Text → ℕ → ℕ → Outcome Taken
+unfoldable pub xrank : TextBytes → ℕ → ℕ → Outcome Taken
 xrank z at to =
     let open_at = past class.Blank z to in
     if slice_index z open_at == 40
@@ -257,7 +255,7 @@ head_at name_to None = None
 head_at name_to (Some r) = Some (record { name_to = name_to; relation = r.0; value_at = name_to + r.1 })
 
 -- a name that begins at a place, followed directly by a relation
-unfoldable pub head : Text → ℕ → Option Head
+unfoldable pub head : TextBytes → ℕ → Option Head
 head z at =
     let name_to = past class.Name z at in
     if is_ascii_alphabetic (slice_index z at) then head_at name_to (relation_at (slice_index z name_to) (slice_index z (name_to + 1))) else None
@@ -267,13 +265,13 @@ abbrev pub word_value : ℕ → ℕ → Option Cut
 word_value from to = if nat_lt from to then Some (cut from to false) else None
 
 -- the value that begins at a place in a word that ends at `to`: the rest of the word, or else a phrase that follows directly
-unfoldable pub value : Text → ℕ → ℕ → Outcome (Option Cut)
+unfoldable pub value : TextBytes → ℕ → ℕ → Outcome (Option Cut)
 value z from to =
     if nat_lt from to then Ok (Some (cut from to false))
     else (if slice_index z from == 34 then (do c ← quoted z from; Ok (Some c)) else Ok None)
 
 -- the place of the first two dots of a piece that begins at a place
-abbrev pub dots_from : ℕ → Text → Option ℕ
+abbrev pub dots_from : ℕ → TextBytes → Option ℕ
 dots_from at [] = None
 dots_from at (b ∷ z) = if b == 46 && slice_index z 0 == 46 then Some at else dots_from (at + 1) z
 
@@ -281,7 +279,7 @@ abbrev pub bounds : Relation → Cut → Option Cut → Bounds
 bounds r c upper = record { relation = r; value = c; upper = upper }
 
 -- a range whose lower bound, if there is one, begins at `from`; the upper one begins behind the dots
-unfoldable pub range : Text → ℕ → Option Cut → ℕ → ℕ → Outcome Bounds
+unfoldable pub range : TextBytes → ℕ → Option Cut → ℕ → ℕ → Outcome Bounds
 range z from lower upper_at to = do
   upper ← value z upper_at to
   low ← or_refused lower MISSING_VALUE from
@@ -289,12 +287,12 @@ range z from lower upper_at to = do
   Ok (bounds relation.Range low (Some high))
 
 -- behind `:`, the values of a word that goes on from `from` to `to`
-abbrev pub word_bounds : Text → ℕ → ℕ → Option ℕ → Outcome Bounds
+abbrev pub word_bounds : TextBytes → ℕ → ℕ → Option ℕ → Outcome Bounds
 word_bounds z from to None = Ok (bounds relation.Has (cut from to false) None)
 word_bounds z from to (Some dots) = range z from (word_value from dots) (dots + 2) to
 
 -- behind `:`, the phrase whose quote opens at a place; it is a lower bound where two dots follow it directly
-unfoldable pub phrase_bounds : Text → ℕ → Outcome Bounds
+unfoldable pub phrase_bounds : TextBytes → ℕ → Outcome Bounds
 phrase_bounds z at = do
   c ← quoted z at
   let to = past_cut c in
@@ -310,13 +308,13 @@ is_has relation.Has = true
 is_has _ = false
 
 -- the values behind a relation, of a word that ends at `to`
-unfoldable pub all_bounds : Text → Relation → ℕ → ℕ → Outcome Bounds
+unfoldable pub all_bounds : TextBytes → Relation → ℕ → ℕ → Outcome Bounds
 all_bounds z r from to =
     if is_has r && nat_lt from to then word_bounds z from to (dots_from from (slice_range z from to))
     else (if is_has r && slice_index z from == 34 then phrase_bounds z from
     else (do c ← value z from to; one_bound r from c))
 
-abbrev pub judged_upper : Text → Option Cut → Outcome (Unit {0})
+abbrev pub judged_upper : TextBytes → Option Cut → Outcome (Unit {0})
 judged_upper z None = Ok tt
 judged_upper z (Some c) = do
   judged z c
@@ -327,7 +325,7 @@ past_upper c None = past_cut c
 past_upper c (Some upper) = past_cut upper
 
 -- the restriction that begins at `at` with a name and a relation, in a word that ends at `to`
-unfoldable pub restriction : Text → ℕ → Head → ℕ → Outcome Taken
+unfoldable pub restriction : TextBytes → ℕ → Head → ℕ → Outcome Taken
 restriction z at h to = do
   b ← all_bounds z h.relation h.value_at to
   judged z b.value
@@ -337,23 +335,23 @@ restriction z at h to = do
 -- ---- WORDS
 
 -- the item that begins at a place of a list
-unfoldable pub item : Text → ℕ → ℕ → Outcome Cut
+unfoldable pub item : TextBytes → ℕ → ℕ → Outcome Cut
 item z word at =
     if slice_index z at == 34 then quoted z at
     else or_refused (word_value at (past class.Item z at)) BAD_WORDS word
 
 -- the next item
-unfoldable pub next_item : Text → ℕ → ℕ → List Cut → Outcome (Item Cut)
+unfoldable pub next_item : TextBytes → ℕ → ℕ → List Cut → Outcome (Item Cut)
 next_item z word at found = do
   c ← item z word (past class.Blank z at)
   s ← separator z BAD_WORDS word (past_cut c)
   Ok (c, s.0, s.1)
 
-unfoldable pub items : Text → ℕ → ℕ → Outcome (List Cut × ℕ)
+unfoldable pub items : TextBytes → ℕ → ℕ → Outcome (List Cut × ℕ)
 items z word at = listed (next_item z word) (suc (length z)) at []
 
 -- an item that would be a restriction
-unfoldable pub is_restriction : Text → Cut → Bool
+unfoldable pub is_restriction : TextBytes → Cut → Bool
 is_restriction z c = not c.quoted && is_some (head z c.from)
 
 abbrev pub is_false : Outcome Bool → Bool
@@ -361,14 +359,14 @@ is_false (Ok has) = not has
 is_false (Err fault) = false
 
 -- an item with neither a bad star nor a token
-unfoldable pub is_tokenless : Text → Cut → Bool
+unfoldable pub is_tokenless : TextBytes → Cut → Bool
 is_tokenless z c = is_false (judged z c)
 
-abbrev pub has_bad_item : Text → List Cut → Bool
+abbrev pub has_bad_item : TextBytes → List Cut → Bool
 has_bad_item z cs = list_any (λ c. is_restriction z c || is_tokenless z c) cs
 
 -- each item as free text; the first bad star is a fault
-unfoldable pub free_items : Text → List Cut → Outcome (List KLexeme)
+unfoldable pub free_items : TextBytes → List Cut → Outcome (List KLexeme)
 free_items z [] = Ok []
 free_items z (c ∷ cs) = do
   judged z c
@@ -376,20 +374,20 @@ free_items z (c ∷ cs) = do
   Ok (lexeme (kind.Free c) (cut_at c) (past_cut c) ∷ rest)
 
 -- the list whose word begins at `at` and whose `(` ends at `from`
-unfoldable pub word_list : Text → ℕ → ℕ → Outcome Taken
+unfoldable pub word_list : TextBytes → ℕ → ℕ → Outcome Taken
 word_list z at from = do
   list ← items z at from
   front ← if has_bad_item z list.0 then refused BAD_WORDS at else free_items z list.0
   Ok (lexeme (kind.Words (length list.0)) at from ∷ (front ++ lexeme kind.WordsEnd list.1 (list.1 + 1) ∷ []), list.1 + 1)
 
-unfoldable pub words : Text → ℕ → ℕ → Outcome Taken
+unfoldable pub words : TextBytes → ℕ → ℕ → Outcome Taken
 words z at to =
     let open_at = past class.Blank z to in
     if slice_index z open_at == 40 then word_list z at (open_at + 1) else refused BAD_WORDS at
 
 -- ---- words
 
-unfoldable pub word_of : Text → Word
+unfoldable pub word_of : TextBytes → Word
 word_of w =
     if bytes_eq w (codes "AND") then word.And
     else (if bytes_eq w (codes "OR") then word.Or
@@ -401,12 +399,12 @@ word_of w =
     else (if bytes_eq w (codes "*") then word.Star else word.Other)))))))
 
 -- a word that is a restriction where it has a name and a relation, and else free text
-abbrev pub plain : Text → ℕ → ℕ → Option Head → Outcome Taken
+abbrev pub plain : TextBytes → ℕ → ℕ → Option Head → Outcome Taken
 plain z at to None = free z at (cut at to false)
 plain z at to (Some h) = restriction z at h to
 
 -- the word from `at` to `to`, by what it stands for
-abbrev pub word_by : Word → Text → ℕ → ℕ → Outcome Taken
+abbrev pub word_by : Word → TextBytes → ℕ → ℕ → Outcome Taken
 word_by word.And z at to = Ok (one kind.And at to)
 word_by word.Or z at to = Ok (one kind.Or at to)
 word_by word.Not z at to = Ok (one kind.Not at to)
@@ -417,13 +415,13 @@ word_by word.Words z at to = words z at to
 word_by word.Star z at to = Ok (one kind.All at to)
 word_by word.Other z at to = plain z at to (head z at)
 
-unfoldable pub whole_word : Text → ℕ → Outcome Taken
+unfoldable pub whole_word : TextBytes → ℕ → Outcome Taken
 whole_word z at = let to = past class.Word z at in word_by (word_of (slice_range z at to)) z at to
 
 -- ---- the text
 
 -- what is taken at a place: the first rule that fits
-unfoldable pub taken : Text → ℕ → Outcome Taken
+unfoldable pub taken : TextBytes → ℕ → Outcome Taken
 taken z at =
     let b = slice_index z at in
     if is_blank b then Ok (blank (at + 1))
@@ -433,7 +431,7 @@ taken z at =
     else (if b == 43 || b == 45 then Ok (signs z at) else whole_word z at))))
 
 -- The lexemes from a place on, or the first fault. The number bounds the turns: each takes a byte, so the text's length is enough.
-unfoldable pub lexemes_from : ℕ → Text → ℕ → Outcome (List KLexeme)
+unfoldable pub lexemes_from : ℕ → TextBytes → ℕ → Outcome (List KLexeme)
 lexemes_from zero z at = Ok []
 lexemes_from (suc turns) z at =
     if nat_lt at (length z) then (do
@@ -443,5 +441,5 @@ lexemes_from (suc turns) z at =
     else Ok []
 
 -- the lexemes of a text, or its first fault
-unfoldable pub lexemes_of : Text → Outcome (List KLexeme)
-lexemes_of z = if nat_lt MAX_TEXT (length z) then refused TOO_LONG MAX_TEXT else lexemes_from (length z) z 0
+unfoldable pub lexemes_of : TextBytes → Outcome (List KLexeme)
+lexemes_of z = if nat_lt most_text_bytes (length z) then refused TOO_LONG most_text_bytes else lexemes_from (length z) z 0

@@ -1,13 +1,13 @@
 -- Where lexemes stand in their text.
 use Rattle.std.specs.Prelude.{◌≡◌, ℕ, ◌+◌, ◌≤◌, ◌<◌, if◌then◌else◌, List, [], ◌∷◌, length, Option, Some, None, Ok}
 use Rattle.std.specs.List.{AllByRecursion}
-use Rattle.sq_lex.specs.declared.codes.TheConstants.{MAX_TEXT}
 use Rattle.sq_lex.specs.declared.lexeme.Cut.{Cut}
 use Rattle.sq_lex.specs.declared.lexeme.KKind.{KKind}
 use Rattle.sq_lex.specs.declared.lexeme.KKind.TheVariants as kind
 use Rattle.sq_lex.specs.declared.lexeme.KLexeme.{KLexeme}
-use Rattle.sq_lex.specs.Bytes.{Text}
+use Rattle.sq_lex.specs.Bytes.{TextBytes}
 use Rattle.sq_lex.specs.Kql.{past_cut, lexemes_of}
+use Rattle.sq_lex.specs.Limits.{most_text_bytes}
 
 -- The piece is all that stands between two places, with its quotes where it has them.
 pub record Fills (from to : ℕ) (c : Cut) : Type 0 where
@@ -44,11 +44,11 @@ StandBetween from to [] = from ≤ to
 StandBetween from to (x ∷ xs) = (from ≤ x.from) × (x.from < x.to) × StandBetween x.to to xs
 
 -- the places of lexemes in a text that is short enough
-pub record AreInPlace (z : Text) (xs : List KLexeme) : Type 0 where
-  pub short : length z ≤ MAX_TEXT
+pub record AreInPlace (z : TextBytes) (xs : List KLexeme) : Type 0 where
+  pub short : length z ≤ most_text_bytes
   pub rising : StandBetween 0 (length z) xs
   pub filled : AllByRecursion IsFilled xs
 
 -- the lexemes of a text are so
 abbrev pub LexemesAreInPlace : Type 0
-LexemesAreInPlace = (z : Text) (xs : List KLexeme) → lexemes_of z ≡ Ok xs → AreInPlace z xs
+LexemesAreInPlace = (z : TextBytes) (xs : List KLexeme) → lexemes_of z ≡ Ok xs → AreInPlace z xs

@@ -5,12 +5,13 @@ ghost use Rattle.std.specs.Str.{IsCharBoundary};
 ghost use Rattle.sq_lex.specs.Bytes.{is_blank, is_in};
 ghost use Rattle.sq_lex.specs.Fql as spec;
 ghost use Rattle.sq_lex.specs.FqlWhole.{AreWhole, HasInside, IsWhole};
+ghost use Rattle.sq_lex.specs.Limits.{most_text_bytes};
 ghost use Rattle.sq_base.specs.Outcome.{Gives};
 
 use crate::class::{Class, byte_at, past};
-use crate::codes::MAX_TEXT;
 use crate::fql_codes::{TOO_LONG, UNCLOSED_STRING};
 use crate::fql_lexeme::{FKind, FLexeme};
+use crate::limits::MOST_TEXT_BYTES;
 use crate::piece::refused;
 use sq_base::{Fault, List, QueryFault};
 use std::alloc::Global;
@@ -77,7 +78,7 @@ fn closing(from: usize, mut bytes: &[u8]) -> Option<usize>
 /// The string whose quote opens at a place.
 #[tactic(auto, unfolding(crate::specs::Fql::string_at))]
 fn string_at(text: &str, at: usize) -> Result<FLexeme, QueryFault>
-    requires short { length text.now ≤ MAX_TEXT }
+    requires short { length text.now ≤ most_text_bytes }
     requires quote { slice_index text.now at ≡ 34 }
     ensures value { result ≡ spec.string_at text.now at }
     ensures whole { IfOk result (IsWhole text.now) }
@@ -92,7 +93,7 @@ fn string_at(text: &str, at: usize) -> Result<FLexeme, QueryFault>
 /// The lexeme that begins at a place, by the first rule that fits.
 #[tactic(auto, unfolding(crate::specs::Fql::lexeme_at))]
 fn lexeme_at(text: &str, at: usize) -> Result<FLexeme, QueryFault>
-    requires short { length text.now ≤ MAX_TEXT }
+    requires short { length text.now ≤ most_text_bytes }
     requires between { IsCharBoundary text.now at }
     requires within { at < length text.now }
     requires begins { is_blank (slice_index text.now at) ≡ false }
@@ -113,12 +114,12 @@ fn lexeme_at(text: &str, at: usize) -> Result<FLexeme, QueryFault>
 /// The lexemes of a text, or its first fault.
 pub fn fql_lexemes(alloc: Global, text: &str) -> Result<List<FLexeme>, Fault>
     ensures lexemes { Gives (λ lexemes. lexemes) result (spec.fql_lexemes_of text.now) }
-    ensures short { OnOk result (length text.now ≤ MAX_TEXT) }
+    ensures short { OnOk result (length text.now ≤ most_text_bytes) }
     // Each lexeme may be sliced from the text, and each string also without its quotes.
     ensures whole { IfOk result (λ lexemes. AreWhole text.now lexemes) }
 {
-    if text.len() > MAX_TEXT {
-        return Err(Fault::Query(refused(TOO_LONG, MAX_TEXT)));
+    if text.len() > MOST_TEXT_BYTES {
+        return Err(Fault::Query(refused(TOO_LONG, MOST_TEXT_BYTES)));
     }
     let mut lexemes = Vec::new(alloc);
     let mut at = past(Class::Blank, text, 0);

@@ -6,9 +6,10 @@ ghost use Rattle.sq_lex.specs.Kql as spec;
 ghost use Rattle.sq_base.specs.Outcome.{Gives};
 ghost use Rattle.sq_lex.specs.Pieces.{IsPiece, IsPieceAfter, IsPlaceAfter, Takes};
 ghost use Rattle.sq_lex.specs.Whole.{AreWhole, HasPieces};
+ghost use Rattle.sq_lex.specs.Limits.{most_text_bytes};
 
 use crate::class::{Class, past};
-use crate::codes::{BAD_STAR, MAX_TEXT, UNCLOSED_STRING};
+use crate::codes::{BAD_STAR, UNCLOSED_STRING};
 use crate::lexeme::{Cut, KKind, KLexeme};
 use sq_base::{Fault, QueryFault};
 use sq_tokens::{PatternFault, pattern_of};
@@ -83,7 +84,7 @@ pub fn push_one(
 /// Whether a piece has a token. One with a bad star is refused at the first.
 #[tactic(auto, unfolding(crate::specs::Kql::judged))]
 pub fn judged(alloc: Global, text: &str, cut: Cut) -> Result<bool, Fault>
-    requires short { length text.now ≤ MAX_TEXT }
+    requires short { length text.now ≤ most_text_bytes }
     requires piece { IsPiece text.now cut }
     ensures { Gives (λ has. has) result (spec.judged text.now cut) }
 {
@@ -107,7 +108,7 @@ pub fn free(
     cut: Cut,
     lexemes: &mut Vec<KLexeme>,
 ) -> Result<usize, Fault>
-    requires short { length text.now ≤ MAX_TEXT }
+    requires short { length text.now ≤ most_text_bytes }
     requires at { at < 2 ^ 32 }
     requires piece { IsPiece text.now cut }
     ensures taken { Takes lexemes.old.items lexemes.new.items result (spec.free text.now at cut) }
@@ -124,7 +125,7 @@ pub fn free(
 /// The text inside the piece that open at a place.
 #[tactic(auto, unfolding(crate::specs::Kql::quoted))]
 pub fn quoted(text: &str, at: usize) -> Result<Cut, QueryFault>
-    requires short { length text.now ≤ MAX_TEXT }
+    requires short { length text.now ≤ most_text_bytes }
     requires quote { slice_index text.now at ≡ 34 }
     ensures value { result ≡ spec.quoted text.now at }
     ensures piece { IfOk result (IsPieceAfter text.now at) }
@@ -145,7 +146,7 @@ pub fn phrase(
     at: usize,
     lexemes: &mut Vec<KLexeme>,
 ) -> Result<usize, Fault>
-    requires short { length text.now ≤ MAX_TEXT }
+    requires short { length text.now ≤ most_text_bytes }
     requires quote { slice_index text.now at ≡ 34 }
     ensures taken { Takes lexemes.old.items lexemes.new.items result (spec.phrase text.now at) }
     ensures whole { AreWhole text.now lexemes.old.items → AreWhole text.now lexemes.new.items }

@@ -6,9 +6,9 @@ ghost use Rattle.sq_lex.specs.Bytes.{is_in};
 ghost use Rattle.sq_lex.specs.Kql as spec;
 ghost use Rattle.sq_lex.specs.Pieces.{AddsItems, IsPlaceAfter, Takes};
 ghost use Rattle.sq_lex.specs.Whole.{AreWhole};
+ghost use Rattle.sq_lex.specs.Limits.{most_text_bytes};
 
 use crate::class::{Class, byte_at, is_blank, past};
-use crate::codes::MAX_TEXT;
 use crate::lexeme::{KKind, KLexeme};
 use crate::piece::push_one;
 use sq_base::Fault;
@@ -33,7 +33,7 @@ fn sign(byte: u8) -> KKind
 
 /// A lexeme for each sign of a run.
 fn push_signs(text: &str, from: usize, to: usize, lexemes: &mut Vec<KLexeme>) -> Result<(), Fault>
-    requires short { length text.now ≤ MAX_TEXT }
+    requires short { length text.now ≤ most_text_bytes }
     requires ordered { from ≤ to }
     requires within { to ≤ length text.now }
     ensures added { AddsItems lexemes.old.items lexemes.new.items result (Ok (spec.sign_lexemes from (slice_range text.now from to))) }
@@ -50,7 +50,7 @@ fn push_signs(text: &str, from: usize, to: usize, lexemes: &mut Vec<KLexeme>) ->
 /// Each sign of a run, or the whole run where it is white space.
 #[tactic(auto, unfolding(crate::specs::Kql::signs))]
 pub fn signs(text: &str, at: usize, lexemes: &mut Vec<KLexeme>) -> Result<usize, Fault>
-    requires short { length text.now ≤ MAX_TEXT }
+    requires short { length text.now ≤ most_text_bytes }
     requires between { IsCharBoundary text.now at }
     requires within { at < length text.now }
     requires sign { is_in Class.Sign (slice_index text.now at) ≡ true }

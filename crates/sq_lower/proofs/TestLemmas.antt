@@ -33,11 +33,11 @@ use Rattle.sq_model.specs.declared.fql.SpanTree.TheVariants as s
 use Rattle.sq_model.specs.declared.fql.FTree.{FTree}
 use Rattle.sq_model.specs.declared.fql.FTree.TheVariants as f
 use Rattle.sq_base.specs.Outcome.{Outcome, refused, or_refused}
-use Rattle.sq_fql.specs.declared.codes.TheConstants.{NEAR}
 use Rattle.sq_fql.specs.declared.raw.FPiece.{FPiece}
 use Rattle.sq_fql.specs.declared.raw.FRaw.{FRaw}
 use Rattle.sq_fql.specs.declared.raw.Mode.TheVariants as mode
 use Rattle.sq_fql.specs.declared.raw.Op.TheVariants as op
+use Rattle.sq_fql.specs.Limits.{fql_distance}
 use Rattle.sq_typing.specs.declared.codes.TheConstants.{NO_TOKEN, BAD_DATE}
 use Rattle.sq_typing.specs.FqlPlaces.{place_of, is_outside, opened, entered}
 use Rattle.sq_typing.specs.FqlTexts.{unread, leaf as leaf_with, pattern_in, leaf_in, word_in, string_spans}
@@ -94,7 +94,7 @@ phrase_in leaf = literal leaf.text ∷ []
 module _ (schema : List Property) (look : Look) where
   pub phrase_given : (leaf : Leaf) → LeafSound leaf → proximate schema look (phrase leaf) ≡ Ok (s.Leaf leaf)
   phrase_given leaf sound =
-      proximate_lone schema look 0 (op.Str mode.Phrase NEAR) (phrase_in leaf) refl ∙ ap (mapped (string_spans mode.Phrase NEAR)) (leaf_is leaf sound)
+      proximate_lone schema look 0 (op.Str mode.Phrase fql_distance) (phrase_in leaf) refl ∙ ap (mapped (string_spans mode.Phrase fql_distance)) (leaf_is leaf sound)
 
   words_read : (leaves : List Leaf) → is_empty leaves ≡ false → LeavesSound leaves → lone look 0 op.Words (map (λ leaf. literal leaf.text) leaves) ≡ Ok (s.Union (map s.Leaf leaves))
   words_read [] some sound = absurd (false≢true (sym some))
@@ -104,10 +104,10 @@ module _ (schema : List Property) (look : Look) where
   words_given leaves some sound = proximate_lone schema look 0 op.Words (map (λ leaf. literal leaf.text) leaves) refl ∙ words_read leaves some sound
 
   -- the same outside of near and onear
-  phrase_found : (leaf : Leaf) → LeafSound leaf → in_texts schema look 0 (op.Str mode.Phrase NEAR) (phrase_in leaf) ≡ Ok (f.Spans look (s.Leaf leaf))
+  phrase_found : (leaf : Leaf) → LeafSound leaf → in_texts schema look 0 (op.Str mode.Phrase fql_distance) (phrase_in leaf) ≡ Ok (f.Spans look (s.Leaf leaf))
   phrase_found leaf sound =
       ap (few_copies 0 look)
-      (proximity_lone schema look 0 (op.Str mode.Phrase NEAR) (phrase_in leaf) refl ∙ ap (mapped (string_spans mode.Phrase NEAR)) (leaf_is leaf sound))
+      (proximity_lone schema look 0 (op.Str mode.Phrase fql_distance) (phrase_in leaf) refl ∙ ap (mapped (string_spans mode.Phrase fql_distance)) (leaf_is leaf sound))
       ∙ few_copies_is look (s.Leaf leaf) (omega arith)
 
   words_found : (leaves : List Leaf) → is_empty leaves ≡ false → LeavesSound leaves →
@@ -117,11 +117,11 @@ module _ (schema : List Property) (look : Look) where
       ∙ few_copies_is look (s.Union (map s.Leaf leaves)) (omega (arith, copies_union (map s.Leaf leaves), few_of_leaves leaves))
 
   edge_found : (leaf : Leaf) → LeafSound leaf → in_texts schema look 0 op.Equals (phrase leaf ∷ []) ≡ Ok (f.Edge look leaf true true)
-  edge_found leaf sound = ap (edge look true true) (pattern_apply schema 0 (op.Str mode.Phrase NEAR) (phrase_in leaf) ∙ leaf_is leaf sound)
+  edge_found leaf sound = ap (edge look true true) (pattern_apply schema 0 (op.Str mode.Phrase fql_distance) (phrase_in leaf) ∙ leaf_is leaf sound)
 
 module _ (schema : List Property) where
   pub phrase_typed : (leaf : Leaf) → LeafSound leaf → fql_typed schema (phrase leaf) ≡ Ok (f.Spans Searchable (s.Leaf leaf))
-  phrase_typed leaf sound = typed_in_scope schema _ 0 (op.Str mode.Phrase NEAR) (phrase_in leaf) refl ∙ phrase_found schema Searchable leaf sound
+  phrase_typed leaf sound = typed_in_scope schema _ 0 (op.Str mode.Phrase fql_distance) (phrase_in leaf) refl ∙ phrase_found schema Searchable leaf sound
 
   pub words_typed : (leaves : List Leaf) → is_empty leaves ≡ false → LeavesSound leaves → fql_typed schema (words leaves) ≡ Ok (f.Spans Searchable (s.Union (map s.Leaf leaves)))
   words_typed leaves some sound = typed_in_scope schema _ 0 op.Words (map (λ leaf. literal leaf.text) leaves) refl ∙ words_found schema Searchable leaves some sound
@@ -158,7 +158,7 @@ module _ (schema : List Property) (property : ℕ) (name : List ℕ) (opens : Op
   has_typed : (leaf : Leaf) → LeafSound leaf → fql_typed schema (scope name (phrase leaf)) ≡ Ok (f.Spans (One property) (s.Leaf leaf))
   has_typed leaf sound =
       opens (phrase leaf)
-      ∙ (typed_in_scope schema (place_of property kind.Text) 0 (op.Str mode.Phrase NEAR) (phrase_in leaf) refl ∙ phrase_found schema (One property) leaf sound)
+      ∙ (typed_in_scope schema (place_of property kind.Text) 0 (op.Str mode.Phrase fql_distance) (phrase_in leaf) refl ∙ phrase_found schema (One property) leaf sound)
 
   equals_typed : (leaf : Leaf) → LeafSound leaf → fql_typed schema (scope name (apply op.Equals (phrase leaf ∷ []))) ≡ Ok (f.Edge (One property) leaf true true)
   equals_typed leaf sound =

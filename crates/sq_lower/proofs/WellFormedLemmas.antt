@@ -5,6 +5,7 @@ use Rattle.std.specs.List.{AllByRecursion}
 use Rattle.std.proofs.lemmas.Bool.{false≢true, and_parts, leb-true}
 use Rattle.std.proofs.lemmas.Int.{ints}
 use Rattle.std.proofs.lemmas.List.Sums.{sum_by-cons}
+use Rattle.sq_base.specs.Limits.{greatest_boost}
 use Rattle.sq_schema.specs.declared.property.Kind.{Kind}
 use Rattle.sq_schema.specs.declared.property.Kind.TheVariants as kind
 use Rattle.sq_schema.specs.declared.property.Property.{Property}
@@ -20,12 +21,12 @@ use Rattle.sq_model.specs.declared.kql.Relation.TheVariants as relation
 use Rattle.sq_model.specs.declared.kql.Sign.{Sign}
 use Rattle.sq_model.specs.declared.kql.Sign.TheVariants.{Plain, Plus, Minus}
 use Rattle.sq_model.specs.declared.kql.KTree.{KTree, Free, All, Words, Group', TextTest, ValueTest, Near', Run', And', Or', Xrank', Row_of-KTree, end_of-KTree, more_of-KTree, Row_of-KOperand, end_of-KOperand, more_of-KOperand}
-use Rattle.sq_fql.specs.declared.codes.TheConstants.{MAX_BOOST, NEAR}
 use Rattle.sq_fql.specs.declared.raw.FRaw.{FRaw}
 use Rattle.sq_fql.specs.declared.raw.Mode.TheVariants as mode
 use Rattle.sq_fql.specs.declared.raw.Op.{Op}
 use Rattle.sq_fql.specs.declared.raw.Op.TheVariants as op
 use Rattle.sq_fql.specs.WellFormed.{IsName, HasForm, IsWellFormed, bytes, xranks, is_xrank}
+use Rattle.sq_fql.specs.Limits.{fql_distance}
 use Rattle.sq_lower.specs.Runs.{Form, is_minus, run_form}
 use Rattle.sq_lower.specs.Lowered.{apply, literal, scope, negated, phrase, words, near, range, text_form, text_test, number_text, value_meant, values_related, value_form, value_test, raw_connectives, lowered, lowered_each, forms}
 use Rattle.sq_lower.proofs.RawForms.{IsLiteral, total, total-append, all-append, SomeOf, form_apply, bytes_apply, xranks_apply, form_scope, bytes_scope, xranks_scope}
@@ -97,8 +98,8 @@ leaf_fits leaf sound = record { form = sound.stars; few_bytes = omega arith; few
 
 phrase_fits : (leaf : Leaf) → LeafSound leaf → Fits (length leaf.text) 0 (phrase leaf)
 phrase_fits leaf sound =
-    applied (op.Str mode.Phrase NEAR) (length leaf.text) 0 (literal leaf.text ∷ []) refl
-    (form_apply 0 (op.Str mode.Phrase NEAR) (literal leaf.text ∷ []) (omega arith) (omega arith) (λ are. (refl, tt)) refl (sound.stars, tt))
+    applied (op.Str mode.Phrase fql_distance) (length leaf.text) 0 (literal leaf.text ∷ []) refl
+    (form_apply 0 (op.Str mode.Phrase fql_distance) (literal leaf.text ∷ []) (omega arith) (omega arith) (λ are. (refl, tt)) refl (sound.stars, tt))
     (fit_alone (length leaf.text) 0 (literal leaf.text) (leaf_fits leaf sound))
 
 are_literals : (leaves : List Leaf) → AllByRecursion IsLiteral (map (λ leaf. literal leaf.text) leaves)
@@ -218,7 +219,7 @@ minus_alone Plus k is = absurd (false≢true is)
 abbrev room : ℕ → ℕ → ℕ
 room texts count = texts + 40 * count
 
-boost_few : (cb : ℤ) → is_boost cb ≡ true → unsigned_abs cb ≤ MAX_BOOST
+boost_few : (cb : ℤ) → is_boost cb ≡ true → unsigned_abs cb ≤ greatest_boost
 boost_few cb h =
     let parts = and_parts (int_le (neg_ℤ (pos 1_000_000)) cb) (int_le cb (pos 1_000_000)) h in
     grind (arith, ints, parts.0, parts.1)

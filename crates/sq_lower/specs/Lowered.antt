@@ -13,12 +13,12 @@ use Rattle.sq_model.specs.declared.kql.KOperand.{KOperand}
 use Rattle.sq_model.specs.declared.kql.Relation.{Relation}
 use Rattle.sq_model.specs.declared.kql.Relation.TheVariants as relation
 use Rattle.sq_model.specs.declared.kql.KTree.{KTree, Free, All, Words, Group', TextTest, ValueTest, Near', Run', And', Or', Xrank', Row_of-KTree, end_of-KTree, more_of-KTree, Row_of-KOperand, end_of-KOperand, more_of-KOperand}
-use Rattle.sq_fql.specs.declared.codes.TheConstants.{NEAR}
 use Rattle.sq_fql.specs.declared.raw.FRaw.{FRaw}
 use Rattle.sq_fql.specs.declared.raw.FRaw.TheVariants as raw
 use Rattle.sq_fql.specs.declared.raw.Mode.TheVariants as mode
 use Rattle.sq_fql.specs.declared.raw.Op.{Op}
 use Rattle.sq_fql.specs.declared.raw.Op.TheVariants as op
+use Rattle.sq_fql.specs.Limits.{fql_distance}
 use Rattle.sq_lower.specs.Runs.{Connectives, Form, run_form}
 
 -- ---- parts of FQL trees
@@ -37,7 +37,7 @@ negated form = apply op.Not (form ∷ [])
 
 -- `string("..")`
 abbrev pub phrase : Leaf → FRaw
-phrase leaf = apply (op.Str mode.Phrase NEAR) (literal leaf.text ∷ [])
+phrase leaf = apply (op.Str mode.Phrase fql_distance) (literal leaf.text ∷ [])
 
 -- `words("..","..")`
 abbrev pub words : List Leaf → FRaw

@@ -5,13 +5,10 @@ ghost use Rattle.sq_lower.specs.Lowered as spec;
 ghost use Rattle.sq_lower.specs.Runs as runs;
 
 use sq_base::{List, Text};
-use sq_fql::{FPiece, FRaw, Mode, Op};
+use sq_fql::{FPiece, FQL_DISTANCE, FRaw, Mode, Op};
 use sq_model::Leaf;
 use sqlite_items::Boxed;
 use std::alloc::{AllocError, Global};
-
-/// The distance that an operator of words has where none is given.
-const NEAR: u32 = 4;
 
 pub(crate) fn apply(op: Op, operands: List<FRaw>) -> FRaw
     ensures { result ≡ spec.apply op operands }
@@ -78,7 +75,7 @@ pub(crate) fn phrase(alloc: Global, leaf: &Leaf) -> Result<FRaw, AllocError>
     let operands = one(alloc, text)?;
     let op = Op::Str {
         mode: Mode::Phrase,
-        n: NEAR,
+        n: FQL_DISTANCE,
     };
     Ok(apply(op, operands))
 }

@@ -5,6 +5,7 @@ use Rattle.std.specs.List.{list_all}
 use Rattle.std.specs.Str.{is_utf8}
 use Rattle.sq_base.specs.Xml.{is_xml_text}
 use Rattle.std.proofs.lemmas.Int.{ints}
+use Rattle.sq_base.specs.Limits.{most_corpus_bytes}
 use Rattle.sq_schema.specs.Bounds.{least_moment, greatest_moment}
 use Rattle.sq_schema.specs.Moments.{IsMoment}
 use Rattle.sq_schema.specs.declared.property.Property.{Property}
@@ -14,7 +15,6 @@ use Rattle.sq_model.specs.declared.corpus.Content.{Content}
 use Rattle.sq_model.specs.declared.corpus.Content.TheVariants.{Words, Number, Moment, Flag}
 use Rattle.sq_model.specs.declared.corpus.Item.{Item}
 use Rattle.sq_model.specs.declared.corpus.Corpus.{Corpus}
-use Rattle.sq_model.specs.Limits.{most_corpus_bytes}
 use Rattle.sq_model.specs.Shown.{has_shown_text}
 use Rattle.sq_model.specs.Laws.{ValuesAreShown}
 use Rattle.sq_model.specs.Valid.{IsValid, has_short_texts, is_short, has_kind, is_content_of, is_value, is_item}

@@ -1,8 +1,9 @@
 -- Which FQL trees are sound for a schema: what typing gives.
 use Rattle.std.specs.Prelude.{◌≡◌, ℕ, ◌+◌, ◌<◌, nat_le, Bool, true, List, [], ◌∷◌, length, sum}
+use Rattle.sq_base.specs.Limits.{greatest_distance, xrank_bound}
 use Rattle.sq_schema.specs.declared.property.Property.{Property}
 use Rattle.sq_model.specs.Copies.{copies}
-use Rattle.sq_model.specs.Limits.{greatest_distance, most_copies, token_bound, xrank_bound}
+use Rattle.sq_model.specs.Limits.{most_copies, token_bound}
 use Rattle.sq_model.specs.Kinds.{is_text_property, is_number_property, is_boost}
 use Rattle.sq_model.specs.declared.fql.Look.{Look}
 use Rattle.sq_model.specs.declared.fql.Look.TheVariants.{Searchable, One}

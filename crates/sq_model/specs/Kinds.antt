@@ -1,11 +1,11 @@
 -- Which properties, values and parameters a typed expression may have.
 use Rattle.std.specs.Prelude.{ℕ, Bool, false, ◌&&◌, not, List, slice_get, Option, Some, None, option_map, ℤ, pos, neg_ℤ, int_le}
+use Rattle.sq_base.specs.Limits.{greatest_boost}
 use Rattle.sq_schema.specs.declared.property.Kind.{Kind}
 use Rattle.sq_schema.specs.declared.property.Property.{Property}
 use Rattle.sq_schema.specs.Properties.{is_text}
 use Rattle.sq_schema.specs.Bounds.{is_from_to}
 pub use Rattle.sq_schema.specs.Bounds.{is_integer_value, is_moment_value}
-use Rattle.sq_model.specs.Limits.{greatest_boost}
 
 abbrev pub kind_of : List Property → ℕ → Option Kind
 kind_of schema property = option_map (λ row. row.kind) (slice_get schema property)

@@ -1,5 +1,6 @@
 -- Which KQL trees are sound for a schema: what typing gives.
 use Rattle.std.specs.Prelude.{◌≡◌, ℕ, ◌+◌, ◌<◌, nat_le, Bool, true, false, ◌&&◌, List, [], ◌∷◌, length, sum, sum_by, Option, Some, None, ℤ, pos}
+use Rattle.sq_base.specs.Limits.{greatest_distance, kql_byte_bound, kql_node_bound}
 use Rattle.sq_schema.specs.declared.property.Kind.{Kind}
 use Rattle.sq_schema.specs.declared.property.Kind.TheVariants as kind
 use Rattle.sq_schema.specs.declared.property.Property.{Property}
@@ -13,6 +14,7 @@ use Rattle.sq_model.specs.declared.leaf.Leaf.{Leaf}
 use Rattle.sq_model.specs.declared.kql.Relation.{Relation}
 use Rattle.sq_model.specs.declared.kql.Relation.TheVariants.{Has, Equal, Unequal, Range}
 use Rattle.sq_model.specs.declared.kql.KTree.{KTree, Free, All, Words, Group', TextTest, ValueTest, Near', Run', And', Or', Xrank', Row_of-KTree, end_of-KTree, more_of-KTree, Row_of-KOperand, end_of-KOperand, more_of-KOperand}
+use Rattle.sq_model.specs.Limits.{most_copies}
 
 -- the leaf's pattern is that of its text
 pub record LeafSound (leaf : Leaf) : Type 0 where
@@ -68,7 +70,7 @@ abbrev mutual
   PartsSound schema (ValueTest property relation first last) = is_value_test_of (kind_of schema property) relation first last ≡ true
   PartsSound schema (Near' s left t right n ordered) =
       SomeSound schema left × SomeSound schema right × (is_proximity (Near' s left t right n ordered) ≡ true)
-      × (nat_le n 1_000 ≡ true) × (nat_le (copies (Near' s left t right n ordered)) 256 ≡ true)
+      × (nat_le n greatest_distance ≡ true) × (nat_le (copies (Near' s left t right n ordered)) most_copies ≡ true)
   PartsSound schema (Run' shape operands) = SomeOperandsSound schema operands
   PartsSound schema (And' shape parts) = SomeSound schema parts
   PartsSound schema (Or' shape parts) = SomeSound schema parts
@@ -133,5 +135,5 @@ abbrev mutual
 
 pub record IsSound (schema : List Property) (tree : KTree) : Type 0 where
   pub parts : PartsSound schema tree
-  pub texts : text_bytes tree < 1_000_000
-  pub nodes : nodes tree < 1_000_000
+  pub texts : text_bytes tree < kql_byte_bound
+  pub nodes : nodes tree < kql_node_bound

@@ -4,13 +4,14 @@ use Rattle.std.specs.List.{list_all, list_any}
 use Rattle.std.specs.Str.{bytes_eq, is_utf8}
 use Rattle.std.specs.Char.{is_control}
 use Rattle.sq_base.specs.Xml.{is_xml_text}
+use Rattle.sq_base.specs.Limits.{most_corpus_bytes, most_values, most_items}
 use Rattle.sq_schema.specs.declared.property.Kind.{Kind}
 use Rattle.sq_schema.specs.declared.property.Kind.TheVariants.{Text, Integer, DateTime, YesNo}
 use Rattle.sq_schema.specs.declared.property.Property.{Property}
 use Rattle.sq_schema.specs.Bounds.{is_integer_value, is_moment_value}
 pub use Rattle.sq_schema.specs.Bounds.{is_from_to}
 use Rattle.sq_schema.specs.Properties.{IsSchema}
-use Rattle.sq_model.specs.Limits.{most_corpus_bytes, most_name_bytes, most_claims, most_values, most_callers, most_items, most_item_bytes, greatest_item_number, least_rank, greatest_rank}
+use Rattle.sq_model.specs.Limits.{most_name_bytes, most_claims, most_callers, most_item_bytes, greatest_item_number, least_rank, greatest_rank}
 use Rattle.sq_model.specs.declared.corpus.Content.{Content}
 use Rattle.sq_model.specs.declared.corpus.Content.TheVariants.{Words, Number, Moment, Flag}
 use Rattle.sq_model.specs.declared.corpus.Value.{Value}

@@ -28,7 +28,7 @@ use Rattle.sq_packet.specs.Words.{is_word, whole_of, truth_of}
 use Rattle.sq_packet.specs.Refiners.{is_refiner_name, are_rising, numbers_of, with_bounds, is_manual, bounded, discretized, is_end, closed_list, refiner_by, refiner_parts, refiner_of}
 use Rattle.sq_packet.specs.Elements.{name_of, children_of, is_named, child_of, parent_of, content_of, repeats, is_seen, full_code}
 use Rattle.sq_packet.specs.Packet.{has_range, of_kind, with_text, with_behavior, with_query_language, with_start, with_count, with_refiner, ended, with_attribute, quote, attribute_at, ends_tag, next_attribute, attributes_by, attributes, no_attributes, with_language, with_direction, named, sort_spec, begun, State, state, range_at, at_tag, tag_end, name_ends, unless_code, room_for, once, start_tag, end_tag, open_comment, turn_by, turn_in, turn, is_done, read_on, behind_order_mark, behind_declaration, packet_from, packet_of, nothing_read}
-use Rattle.sq_packet.proofs.SoundLemmas.{Leads, leads_on, holds_if, or_leads, AreWithin, Rest, place_within, misfit_within, drop_within, skip_within, expected_leads, comment_leads, declaration_leads, name_leads, Next, Text, text_leads, trimmed_within, marks_within}
+use Rattle.sq_packet.proofs.SoundLemmas.{Leads, leads_on, holds_if, or_leads, AreWithin, Rest, place_within, misfit_within, drop_within, skip_within, expected_leads, comment_leads, declaration_leads, name_leads, Next, IsTextWithin, text_leads, trimmed_within, marks_within}
 
 -- ---- refiners
 
@@ -233,7 +233,7 @@ attribute_leads end names ms h =
     (unless_leads end (list_any (bytes_eq n.0) names) 502 (place end ms) (misfit_within end ms h))
     (λ _ _. leads_on end (AreWithin end) (Said end) (expected end (codes "=") (skip_blanks n.1)) _ (expected_leads end (codes "=") (skip_blanks n.1) (skip_within end n.1 rest))
     (λ value within. leads_on end (Rest {X = ℕ} end) (Said end) (quote end (skip_blanks value)) _ (quote_leads end (skip_blanks value) (skip_within end value within))
-    (λ q inside. leads_on end (Text end) (Said end) (text_to end q.0 q.1) _ (text_leads end q.0 q.1 inside)
+    (λ q inside. leads_on end (IsTextWithin end) (Said end) (text_to end q.0 q.1) _ (text_leads end q.0 q.1 inside)
     (λ text both. (misfit_within end q.1 inside, drop_within end 1 text.1 both.1))))))
 
 next_attribute_leads : (end : ℕ) (names : List (List ℕ)) (ms : List Mark) → AreWithin end ms → Leads end (Next (Said end)) (next_attribute end names ms)
@@ -408,7 +408,7 @@ comment_turn end i d ms h sound =
 
 by_content : (end : ℕ) (c : Content) (e : Element) (d : Draft) (ms : List Mark) → AreWithin end ms → Sound end (Some e) d → Leads end (Fine end) (turn_by c end e d ms)
 by_content end Words e d ms h sound =
-    leads_on end (Text end) (Fine end) (text_to end 60 ms) _ (text_leads end 60 ms h) (λ text both. end_leads end e text.0 d text.1 both.0 both.1 sound)
+    leads_on end (IsTextWithin end) (Fine end) (text_to end 60 ms) _ (text_leads end 60 ms h) (λ text both. end_leads end e text.0 d text.1 both.0 both.1 sound)
 by_content end Elements e d ms h sound =
     let within = skip_within end ms h in
     holds_if (Leads end (Fine end)) (begins (codes "<!") (skip_blanks ms)) _ _ (λ _. comment_turn end (Some e) d (skip_blanks ms) within sound)

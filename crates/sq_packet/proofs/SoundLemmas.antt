@@ -138,26 +138,26 @@ next_leads end stop (m ∷ ms) h =
     (λ _. holds_if (Leads end (Next (One end))) (m.c == 60) _ _ (λ _. h.0)
     (λ _. leads_on end (One end) (Next (One end)) (character end (m ∷ ms)) _ (character_leads end (m ∷ ms) h) (λ x one. one)))
 
-abbrev pub Text : ℕ → List Mark × List Mark → Type 0
-Text end r = AreWithin end r.0 × AreWithin end r.1
+abbrev pub IsTextWithin : ℕ → List Mark × List Mark → Type 0
+IsTextWithin end r = AreWithin end r.0 × AreWithin end r.1
 
-onto_leads : (end : ℕ) (m : Mark) (o : Outcome (List Mark × List Mark)) → m.at ≤ end → Leads end (Text end) o → Leads end (Text end) (onto_text (m ∷ []) o)
+onto_leads : (end : ℕ) (m : Mark) (o : Outcome (List Mark × List Mark)) → m.at ≤ end → Leads end (IsTextWithin end) o → Leads end (IsTextWithin end) (onto_text (m ∷ []) o)
 onto_leads end m (Ok (text, rest)) low h = ((low, h.0), h.1)
 onto_leads end m (Err fault) low h = h
 
 by_leads : (end : ℕ) (next : List Mark → Outcome (List Mark × List Mark)) (ms : List Mark) (o : Option (Mark × List Mark)) → AreWithin end ms → Next (One end) o
-    → ((rest : List Mark) → AreWithin end rest → Leads end (Text end) (next rest)) → Leads end (Text end) (text_by next ms o)
+    → ((rest : List Mark) → AreWithin end rest → Leads end (IsTextWithin end) (next rest)) → Leads end (IsTextWithin end) (text_by next ms o)
 by_leads end next ms None h one more = (tt, h)
 by_leads end next ms (Some r) h one more = onto_leads end r.0 (next r.1) one.0 (more r.1 one.1)
 
-until_leads : (turns end stop : ℕ) (ms : List Mark) → AreWithin end ms → Leads end (Text end) (text_until turns end stop ms)
+until_leads : (turns end stop : ℕ) (ms : List Mark) → AreWithin end ms → Leads end (IsTextWithin end) (text_until turns end stop ms)
 unfolding text_until
 until_leads zero end stop ms h = misfit_within end ms h
 until_leads (suc turns) end stop ms h =
-    leads_on end (Next (One end)) (Text end) (next_character end stop ms) _ (next_leads end stop ms h)
+    leads_on end (Next (One end)) (IsTextWithin end) (next_character end stop ms) _ (next_leads end stop ms h)
     (λ x one. by_leads end (text_until turns end stop) ms x h one (λ rest within. until_leads turns end stop rest within))
 
-pub text_leads : (end stop : ℕ) (ms : List Mark) → AreWithin end ms → Leads end (Text end) (text_to end stop ms)
+pub text_leads : (end stop : ℕ) (ms : List Mark) → AreWithin end ms → Leads end (IsTextWithin end) (text_to end stop ms)
 text_leads end stop ms h = until_leads (suc (length ms)) end stop ms h
 
 aux_within : (end : ℕ) (ms done : List Mark) → AreWithin end ms → AreWithin end done → AreWithin end (reverse_aux ms done)

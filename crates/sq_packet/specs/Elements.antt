@@ -7,6 +7,7 @@ use Rattle.sq_packet.specs.declared.element.Element.TheVariants.{QueryPacket, Qu
 use Rattle.sq_packet.specs.declared.element.Content.{Content}
 use Rattle.sq_packet.specs.declared.element.Content.TheVariants.{Elements, Words}
 use Rattle.sq_packet.specs.declared.draft.Draft.{Draft}
+use Rattle.sq_packet.specs.Limits.{most_properties, most_refiners, most_sorts}
 
 abbrev pub name_of : Element → List ℕ
 name_of QueryPacket = codes "QueryPacket"
@@ -99,7 +100,7 @@ is_seen element seen = list_any (λ other. bytes_eq (key_of other) (key_of eleme
 
 -- the code of one element too many
 abbrev pub full_code : Option Element → Draft → Option ℕ
-full_code (Some Property) draft = if nat_le 64 (length draft.request.properties) then Some 513 else None
-full_code (Some Refiner) draft = if nat_le 16 (length draft.request.refiners) then Some 510 else None
-full_code (Some SortByProperty) draft = if nat_le 4 (length draft.request.sorts) then Some 515 else None
+full_code (Some Property) draft = if nat_le most_properties (length draft.request.properties) then Some 513 else None
+full_code (Some Refiner) draft = if nat_le most_refiners (length draft.request.refiners) then Some 510 else None
+full_code (Some SortByProperty) draft = if nat_le most_sorts (length draft.request.sorts) then Some 515 else None
 full_code other draft = None

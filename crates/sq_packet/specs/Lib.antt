@@ -3,6 +3,7 @@ pub mod Digits
 pub mod Elements
 pub mod Gives
 pub mod Laws
+pub mod Limits
 pub mod Marks
 pub mod Packet
 pub mod Readings

@@ -28,6 +28,7 @@ pub use Rattle.sq_packet.specs.Texts.{text_to, bytes_of, trimmed}
 use Rattle.sq_packet.specs.Words.{is_word, whole_of, truth_of}
 use Rattle.sq_packet.specs.Refiners.{refiner_of}
 use Rattle.sq_packet.specs.Elements.{name_of, child_of, parent_of, content_of, repeats, is_seen, full_code}
+use Rattle.sq_packet.specs.Limits.{most_hits, greatest_page_end}
 
 -- ---- what is read
 
@@ -38,7 +39,7 @@ abbrev pub nothing_read : Draft
 nothing_read = record { request = no_request; seen = []; range = 0 }
 
 abbrev pub has_range : Request → Bool
-has_range r = nat_le 1 r.start && nat_le 1 r.count && nat_le r.count 500 && nat_le (r.start + r.count) 10_001
+has_range r = nat_le 1 r.start && nat_le 1 r.count && nat_le r.count most_hits && nat_le (r.start + r.count) greatest_page_end
 
 -- What a text says where its element ends at a place; a text that says nothing of its kind is refused where it begins, or at the end tag.
 abbrev pub of_kind : {A : Type 0} → ℕ → ℕ → List Mark → (List ℕ → Option A) → Outcome A

@@ -5,6 +5,7 @@ use Rattle.std.specs.Str.{bytes_eq}
 use Rattle.sq_schema.specs.declared.values.NumberFault.{NumberFault}
 use Rattle.sq_schema.specs.Values.{number_of}
 use Rattle.sq_packet.specs.declared.request.RefinerSpec.{RefinerSpec}
+use Rattle.sq_packet.specs.Limits.{most_bounds}
 pub use Rattle.sq_packet.specs.Marks.{is_blank}
 
 abbrev pub refiner : List ℕ → List ℤ → RefinerSpec
@@ -40,7 +41,7 @@ numbers_of (part ∷ parts) = onto_numbers (number_of part) (numbers_of parts)
 
 abbrev pub with_bounds : List ℕ → Option (List ℤ) → Option RefinerSpec
 with_bounds name None = None
-with_bounds name (Some bounds) = if nat_le (length bounds) 64 && are_rising bounds then Some (refiner name bounds) else None
+with_bounds name (Some bounds) = if nat_le (length bounds) most_bounds && are_rising bounds then Some (refiner name bounds) else None
 
 abbrev pub bounded : List ℕ → List (List ℕ) → Option RefinerSpec
 bounded name [] = None

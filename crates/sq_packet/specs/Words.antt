@@ -4,15 +4,16 @@ use Rattle.std.specs.Char.{is_ascii_digit}
 use Rattle.std.specs.List.{list_all}
 use Rattle.std.specs.Str.{str_eq_ignore_ascii_case}
 use Rattle.std.specs.Str.Parse.{digits_value}
+use Rattle.sq_base.specs.Limits.{most_digits}
 
 -- the text is this word, ASCII case ignored
 abbrev pub is_word : List ℕ → List ℕ → Bool
 is_word word text = str_eq_ignore_ascii_case text word
 
--- 1 to 10 digits, of at most 32 bits
+-- one digit or more, of at most 32 bits
 abbrev pub whole_of : List ℕ → Option ℕ
 whole_of text =
-    if nat_le 1 (length text) && nat_le (length text) 10 && list_all is_ascii_digit text && nat_lt (digits_value 10 text) (2 ^ 32) then Some (digits_value 10 text)
+    if nat_le 1 (length text) && nat_le (length text) most_digits && list_all is_ascii_digit text && nat_lt (digits_value 10 text) (2 ^ 32) then Some (digits_value 10 text)
     else None
 
 abbrev pub truth_of : List ℕ → Option Bool

@@ -6,12 +6,7 @@ ghost use Rattle.sq_packet.specs.Elements as spec;
 use crate::codes::{BAD_REFINER, TOO_MANY_PROPERTIES, TOO_MANY_SORTS};
 use crate::draft::Draft;
 use crate::element::{Content, Element};
-
-const MAX_PROPERTIES: usize = 64;
-
-const MAX_REFINERS: usize = 16;
-
-const MAX_SORTS: usize = 4;
+use crate::limits::{MOST_PROPERTIES, MOST_REFINERS, MOST_SORTS};
 
 pub fn name_of(element: Element) -> &'static str
     ensures { result.now ≡ spec.name_of element }
@@ -173,21 +168,21 @@ pub fn full_code(child: Option<Element>, draft: &Draft) -> Option<u16>
     };
     match element {
         Element::Property => {
-            if draft.request.properties.len() >= MAX_PROPERTIES {
+            if draft.request.properties.len() >= MOST_PROPERTIES {
                 Some(TOO_MANY_PROPERTIES)
             } else {
                 None
             }
         }
         Element::Refiner => {
-            if draft.request.refiners.len() >= MAX_REFINERS {
+            if draft.request.refiners.len() >= MOST_REFINERS {
                 Some(BAD_REFINER)
             } else {
                 None
             }
         }
         Element::SortByProperty => {
-            if draft.request.sorts.len() >= MAX_SORTS {
+            if draft.request.sorts.len() >= MOST_SORTS {
                 Some(TOO_MANY_SORTS)
             } else {
                 None

@@ -11,6 +11,7 @@ use crate::draft::Draft;
 use crate::element::Element;
 use crate::elements::is_seen;
 use crate::fault::{PacketFault, refused};
+use crate::limits::{GREATEST_PAGE_END, MOST_HITS};
 use crate::mark::Mark;
 use crate::marks::place;
 use crate::refiners::refiner;
@@ -20,20 +21,14 @@ use crate::words::{truth, whole};
 use sq_base::QueryFault;
 use std::alloc::Global;
 
-/// The most hits of a page.
-const MAX_COUNT: u32 = 500;
-
-/// The sum of the first place behind the last page, and 1.
-const MAX_END: u32 = 10_001;
-
 /// Whether the page lies among the first 10,000 hits.
 fn has_range(request: &Request) -> bool
     ensures { result ≡ spec.has_range request.now }
 {
     request.start >= 1
         && request.count >= 1
-        && request.count <= MAX_COUNT
-        && request.start <= MAX_END - request.count
+        && request.count <= MOST_HITS
+        && request.start <= GREATEST_PAGE_END - request.count
 }
 
 fn whole_in(alloc: Global, text: &[Mark], at: u32) -> Result<u32, PacketFault>

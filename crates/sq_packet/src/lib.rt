@@ -10,6 +10,7 @@ mod elements;
 mod ends;
 mod fault;
 mod laws;
+mod limits;
 mod mark;
 mod marks;
 mod read;
@@ -21,5 +22,6 @@ mod words;
 
 pub use fault::PacketFault;
 pub use laws::faults_lie_in_the_packet;
+pub use limits::MOST_HITS;
 pub use read::read_packet;
 pub use request::{Direction, Language, RefinerSpec, Request, SortSpec};

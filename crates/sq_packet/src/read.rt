@@ -1,6 +1,7 @@
 //! The request that a packet is.
 
 ghost use Rattle.std.specs.Prelude.{◌≡◌, ◌≤◌, ◌<◌, ◌^◌, length, suc, IfOk};
+ghost use Rattle.sq_base.specs.Limits.{most_packet_bytes};
 ghost use Rattle.sq_packet.specs.Asked.{IsAsked};
 ghost use Rattle.sq_packet.specs.Gives.{Gives};
 ghost use Rattle.sq_packet.specs.Marks.{Reads};
@@ -192,7 +193,7 @@ fn packet_from(alloc: Global, end: u32, marks: &[Mark]) -> Result<Request, Packe
 /// 510 and 512 to 515.
 #[tactic(auto, unfolding(crate::specs::Packet::packet_of))]
 pub fn read_packet(alloc: Global, bytes: &[u8]) -> Result<Request, PacketFault>
-    requires { length bytes.now ≤ 131072 }
+    requires { length bytes.now ≤ most_packet_bytes }
     ensures value { Gives (λ r. r) result (spec.packet_of bytes.now) }
     ensures limits { IfOk result IsAsked }
 {

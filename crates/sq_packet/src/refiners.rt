@@ -4,13 +4,11 @@ ghost use Rattle.std.specs.Prelude.{◌≡◌, ◌<◌, ◌==◌, ◌∷◌, map
 ghost use Rattle.std.specs.List.{slice_split};
 ghost use Rattle.sq_packet.specs.Refiners as spec;
 
+use crate::limits::MOST_BOUNDS;
 use crate::request::RefinerSpec;
 use sq_base::{List, Text};
 use sq_schema::number;
 use std::alloc::{AllocError, Global};
-
-/// The most bounds of a refiner.
-const MAX_BOUNDS: usize = 64;
 
 /// The parts of a text between such ASCII characters.
 fn cut<'a>(alloc: Global, stop: char, text: &'a str) -> Result<Vec<&'a str>, AllocError>
@@ -98,7 +96,7 @@ fn with_bounds(
     let Some(bounds) = bounds else {
         return Ok(None);
     };
-    if bounds.len() > MAX_BOUNDS || !are_rising(bounds.as_slice()) {
+    if bounds.len() > MOST_BOUNDS || !are_rising(bounds.as_slice()) {
         return Ok(None);
     }
     let name = Text::from_str(alloc, name)?;

@@ -5,8 +5,7 @@ ghost use Rattle.std.specs.Char.{is_ascii_digit};
 ghost use Rattle.std.specs.List.{list_all};
 ghost use Rattle.sq_packet.specs.Words as spec;
 
-/// The most digits of a whole number.
-const MAX_DIGITS: usize = 10;
+use sq_base::MOST_DIGITS;
 
 pub fn is_word(word: &str, text: &str) -> bool
     ensures { result ≡ spec.is_word word.now text.now }
@@ -24,7 +23,7 @@ fn has_digits(text: &[u8]) -> bool
 pub fn whole(text: &str) -> Option<u32>
     ensures { result ≡ spec.whole_of text.now }
 {
-    if text.len() > MAX_DIGITS || !has_digits(text.as_bytes()) {
+    if text.len() > MOST_DIGITS || !has_digits(text.as_bytes()) {
         return None;
     }
     match text.parse() {

@@ -1,7 +1,7 @@
 //! The slices of one size.
 
 ghost use Rattle.std.specs.Prelude.{◌≡◌, ◌≢◌, ℕ, ◌+◌, ◌-◌, ◌*◌, ◌^◌, ◌<◌, ◌≤◌, [], length, IsTrue, OnOk, slice_index, nat_lt, if◌then◌else◌};
-ghost use Rattle.sq_pool.specs.SizeClass.{IsTaken, IsWhole, slice_at, written, taken_words, all_words};
+ghost use Rattle.sq_pool.specs.SizeClass.{IsTaken, IsWhole, slice_at, written, taken_words, all_words, most_slices};
 
 use std::alloc::{AllocError, Global};
 use std::marker::Model;
@@ -49,7 +49,7 @@ impl SizeClass {
     /// The number of words of the slices that chains hold.
     pub fn taken_words(&self) -> u64
         ensures value { result ≡ taken_words self.now.state }
-        ensures few { result ≤ 2 ^ 30 * self.now.state.width }
+        ensures few { result ≤ most_slices * self.now.state.width }
     {
         (self.count as u64 - self.free.len() as u64) * self.width as u64
     }
@@ -57,7 +57,7 @@ impl SizeClass {
     /// The number of words of all slices.
     pub fn all_words(&self) -> u64
         ensures value { result ≡ all_words self.now.state }
-        ensures few { result ≤ 2 ^ 30 * self.now.state.width }
+        ensures few { result ≤ most_slices * self.now.state.width }
     {
         self.count as u64 * self.width as u64
     }

@@ -1,6 +1,7 @@
 -- What contracts see of an index.
 use Rattle.std.specs.Prelude.{◌≡◌, ℕ, ◌+◌, ◌*◌, ◌/◌, ◌%◌, ◌<◌, ◌≤◌, ℤ, pos, Bool, true, false, ◌&&◌, ◌==◌, nat_eq, if◌then◌else◌, List, [], ◌∷◌, length, map, filter, flat_map, slice_index_or, Option, Some, None}
 use Rattle.std.specs.Str.{bytes_eq}
+use Rattle.sq_base.specs.Limits.{most_values}
 use Rattle.sq_schema.specs.declared.property.Kind.{Kind}
 use Rattle.sq_tokens.specs.Pattern.{is_token_asked}
 use Rattle.sq_cursor.specs.declared.span.Span.{Span}
@@ -64,14 +65,14 @@ list_at index list = slice_index_or index.lists list (record { property = 0; tok
 
 -- a posting as a span of one token
 abbrev pub span_of : ℕ → Posting → Span
-span_of property e = record { row = e.row; part = property * 1_000 + e.ordinal; first = e.place; last = e.place }
+span_of property e = record { row = e.row; part = property * most_values + e.ordinal; first = e.place; last = e.place }
 
 abbrev pub spans_of : ℕ → List Posting → List Span
 spans_of property entries = map (span_of property) entries
 
 -- the span is in a passage of the property
 abbrev pub is_of_property : ℕ → Span → Bool
-is_of_property property span = span.part / 1_000 == property
+is_of_property property span = span.part / most_values == property
 
 abbrev pub spans_of_list : TermList → List Span
 spans_of_list list = spans_of list.property list.postings
@@ -103,6 +104,6 @@ abbrev pub length_in : List Length → ℕ → ℕ → ℕ
 length_in [] row ordinal = 0
 length_in (entry ∷ table) row ordinal = if (entry.row == row) && (entry.ordinal == ordinal) then entry.tokens else length_in table row ordinal
 
--- how many tokens the passage of a row and a part has: the part is 1,000 times the property and the ordinal
+-- how many tokens the passage of a row and a part has: the part is the property, times the most values that it has, and the ordinal
 abbrev pub length_of : Indexed → ℕ → ℕ → ℕ
-length_of index row part = length_in (slice_index_or index.lengths (part / 1_000) []) row (part % 1_000)
+length_of index row part = length_in (slice_index_or index.lengths (part / most_values) []) row (part % most_values)

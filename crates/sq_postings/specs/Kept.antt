@@ -1,6 +1,7 @@
 -- What the type of an index keeps of its parts, whatever corpus it stands for.
 use Rattle.std.specs.Prelude.{◌≡◌, ℕ, ◌<◌, ◌≤◌, ◌^◌, Bool, true, nat_lt, ◌&&◌, List, length}
 use Rattle.std.specs.List.{list_all}
+use Rattle.sq_schema.specs.Limits.{most_rows}
 use Rattle.sq_postings.specs.Rising.{rises, term_before, claim_before, length_before, pair_up_to}
 use Rattle.sq_postings.specs.declared.parts.Claim.{Claim}
 use Rattle.sq_postings.specs.declared.parts.Term.{Term}
@@ -18,7 +19,7 @@ abbrev pub are_claims : List Claim → Bool
 are_claims claims = rises claim_before claims && list_all has_rising_rows claims
 
 pub record IsKept (parts : Parts) : Type 0 where
-  pub few_shapes : length parts.shapes ≤ 64
+  pub few_shapes : length parts.shapes ≤ most_rows
   pub few_rows : length parts.rows < 2 ^ 32
   pub few_terms : length parts.terms < 2 ^ 32
   pub terms_rise : rises term_before parts.terms ≡ true

@@ -1,5 +1,6 @@
 -- Laws of an index that stands for a corpus.
 use Rattle.std.specs.Prelude.{◌≡◌, ◌≤◌, ◌<◌, ℕ, ◌+◌, ◌-◌, ◌*◌, Bool, false, ◌&&◌, eqb, List, length, map, filter, take, drop, sum_by, flat_map}
+use Rattle.sq_base.specs.Limits.{most_values}
 use Rattle.sq_coded.specs.declared.posting.Posting.{Posting}
 use Rattle.sq_model.specs.declared.corpus.Corpus.{Corpus}
 use Rattle.sq_model.specs.Cost.{posting_count}
@@ -36,7 +37,7 @@ is_in_passage row part span = eqb span.row row && eqb span.part part
 
 -- The spans of a list in each passage of its property are the places of its token there.
 abbrev pub ListsHavePlaces : Indexed → Corpus → Type 0
-ListsHavePlaces index corpus = (list row ordinal : ℕ) → list < length index.lists → ordinal < 1_000 →
-    filter (is_in_passage row ((list_at index list).property * 1_000 + ordinal)) (spans_of_list (list_at index list))
-    ≡ map (span_at row ((list_at index list).property * 1_000 + ordinal))
-    (places_from 0 (list_at index list).token (passage_at corpus.items row ((list_at index list).property * 1_000 + ordinal)))
+ListsHavePlaces index corpus = (list row ordinal : ℕ) → list < length index.lists → ordinal < most_values →
+    filter (is_in_passage row ((list_at index list).property * most_values + ordinal)) (spans_of_list (list_at index list))
+    ≡ map (span_at row ((list_at index list).property * most_values + ordinal))
+    (places_from 0 (list_at index list).token (passage_at corpus.items row ((list_at index list).property * most_values + ordinal)))

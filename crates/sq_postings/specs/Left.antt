@@ -1,6 +1,7 @@
 -- What is left of the cursors of an index.
 use Rattle.std.specs.Prelude.{◌≡◌, ℕ, ◌<◌, ℤ, true, nat_le, List, [], ◌∷◌, filter, ⊤}
 use Rattle.std.specs.List.{list_all}
+use Rattle.sq_schema.specs.Limits.{most_rows}
 use Rattle.sq_cursor.specs.Spans.{are_ordered}
 use Rattle.sq_coded.specs.Coded.{is_small}
 use Rattle.sq_coded.specs.declared.posting.Posting.{Posting}
@@ -8,7 +9,7 @@ use Rattle.sq_postings.specs.Indexed.{spans_of}
 
 -- the entries of a list of a property
 pub record AreEntries (property : ℕ) (entries : List Posting) : Type 0 where
-  pub few : property < 64
+  pub few : property < most_rows
   pub small : list_all is_small entries ≡ true
   pub spans : are_ordered (spans_of property entries) ≡ true
 

@@ -2,6 +2,7 @@
 use Rattle.std.specs.Prelude.{ℕ, ◌+◌, ◌/◌, ◌%◌, ℤ, int_lt, Bool, if◌then◌else◌, List, [], ◌∷◌, ◌++◌, map, slice_index_or}
 use Rattle.std.specs.Str.{bytes_eq}
 use Rattle.sq_base.specs.Sorting.{in_order}
+use Rattle.sq_base.specs.Limits.{most_values}
 use Rattle.sq_tokens.specs.Token.{token_text}
 use Rattle.sq_model.specs.Passages.{Passage, passages, numbers}
 use Rattle.sq_model.specs.declared.corpus.Value.{Value}
@@ -54,4 +55,4 @@ values_at items row = slice_index_or (map values_of items) row []
 
 -- the passage of a row and a part, and no tokens where there is none
 abbrev pub passage_at : List Item → ℕ → ℕ → Passage
-passage_at items row part = slice_index_or (passages (values_at items row) (part / 1_000)) (part % 1_000) []
+passage_at items row part = slice_index_or (passages (values_at items row) (part / most_values)) (part % most_values) []

@@ -13,7 +13,7 @@ use crate::parts::{Claim, Parts};
 use crate::posts::PostCursor;
 use crate::search;
 use crate::values::ValueCursor;
-use sq_base::Steps;
+use sq_base::{MOST_VALUES, Steps};
 use sq_coded::Reader;
 use sq_cursor::{ItemCursor, ListCursor, SpanCursor};
 use sq_schema::Kind;
@@ -196,9 +196,11 @@ impl Index {
         ensures counted { steps.new ≡ steps.old + 1 }
     {
         steps.tick();
-        let property = (passage.1 / 1_000) as usize;
+        let property = (passage.1 / MOST_VALUES) as usize;
         match self.parts.lengths.as_slice().get(property) {
-            Some(lengths) => { search::tokens_of(lengths.as_slice(), passage.0, passage.1 % 1_000) }
+            Some(lengths) => {
+                search::tokens_of(lengths.as_slice(), passage.0, passage.1 % MOST_VALUES)
+            }
             None => 0,
         }
     }

@@ -1,5 +1,7 @@
 ghost use Rattle.std.specs.Prelude.{◌≡◌, ℕ, ◌+◌, ◌*◌, ◌<◌, ◌≤◌, true, length};
 ghost use Rattle.std.specs.List.{list_all};
+ghost use Rattle.sq_schema.specs.Limits.{most_rows};
+ghost use Rattle.sq_base.specs.Limits.{most_values};
 ghost use Rattle.sq_coded.specs.Coded.{is_list};
 ghost use Rattle.sq_coded.specs.Reading.{count_behind};
 ghost use Rattle.sq_cursor.specs.Entries.{entries_behind, first_count};
@@ -7,7 +9,7 @@ ghost use Rattle.sq_cursor.specs.Spans.{are_ordered, first_passage, first_span, 
 ghost use Rattle.sq_postings.specs.Indexed.{spans_of, is_of_property};
 ghost use Rattle.sq_postings.specs.Left.{AreEntries};
 
-use sq_base::Steps;
+use sq_base::{MOST_VALUES, Steps};
 use sq_coded::{Posting, Reader};
 use sq_cursor::SpanCursor;
 use std::sync::ledger::Ledger;
@@ -26,7 +28,7 @@ pub struct PostCursor<'a> {
 impl<'a> PostCursor<'a> {
     /// A cursor over what is left of a reader.
     pub(crate) fn new(reader: Reader<'a>, property: u32) -> PostCursor<'a>
-        requires few { property < 64 }
+        requires few { property < most_rows }
         requires list { is_list reader ≡ true }
         ensures left { ⟦<PostCursor<'a> as SpanCursor>⟧.left result ≡ spans_of property reader.entry }
         ensures parts { list_all (is_of_property property) (spans_of property reader.entry) ≡ true }
@@ -37,9 +39,9 @@ impl<'a> PostCursor<'a> {
 
     /// The number of the first passage of the property.
     fn first_part(&self) -> u32
-        ensures { result ≡ self.now.property * 1_000 }
+        ensures { result ≡ self.now.property * most_values }
     {
-        self.property * 1_000
+        self.property * MOST_VALUES
     }
 }
 

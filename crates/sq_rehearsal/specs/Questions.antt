@@ -3,6 +3,7 @@ use Rattle.std.specs.Prelude.{ℕ, true, List, [], ◌∷◌, ◌++◌, codes}
 use Rattle.sq_packet.specs.declared.request.Language.{Language}
 use Rattle.sq_packet.specs.declared.request.Language.TheVariants.{Kql, Fql}
 use Rattle.sq_packet.specs.declared.request.Request.{Request}
+use Rattle.sq_packet.specs.Limits.{most_hits}
 use Rattle.sq_rehearsal.specs.declared.asking.Question.{Question}
 
 -- a query by itself: no properties are shown, nothing is refined or sorted, and loose operands must all hold
@@ -11,7 +12,7 @@ request language text = record {
   language = language;
   text = text;
   start = 1;
-  count = 500;
+  count = most_hits;
   properties = [];
   refiners = [];
   sorts = [];

@@ -12,6 +12,10 @@ use Rattle.sq_model.specs.declared.corpus.Item.{Item}
 use Rattle.sq_model.specs.declared.corpus.Caller.{Caller}
 use Rattle.sq_model.specs.declared.corpus.Corpus.{Corpus}
 
+-- of how many items the corpus is at most
+abbrev pub most_rehearsed : ℕ
+most_rehearsed = 2_000
+
 -- a property whose items have one value each, and which no refiner counts
 abbrev pub property : List ℕ → Kind → Bool → Property
 property name kind searchable = record { name = name; kind = kind; searchable = searchable; multi = false; refinable = false }

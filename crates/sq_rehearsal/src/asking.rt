@@ -4,7 +4,7 @@ ghost use Rattle.sq_packet.specs.Asked.{IsAsked};
 ghost use Rattle.sq_rehearsal.specs.Questions as spec;
 
 use sq_base::{List, Text};
-use sq_packet::{Language, Request};
+use sq_packet::{Language, MOST_HITS, Request};
 use std::alloc::{AllocError, Global};
 
 /// A query of the rehearsal.
@@ -24,7 +24,7 @@ fn request(alloc: Global, language: Language, text: &str) -> Result<Request, All
         language,
         text: Text::from_str(alloc, text)?,
         start: 1,
-        count: 500,
+        count: MOST_HITS,
         properties: List::new(alloc),
         refiners: List::new(alloc),
         sorts: List::new(alloc),

@@ -58,7 +58,7 @@ fn callers(alloc: Global) -> Result<List<Caller>, AllocError>
 }
 
 fn items(alloc: Global, count: u32) -> Result<List<Item>, AllocError>
-    requires { count ≤ 2_000 }
+    requires { count ≤ spec.most_rehearsed }
     ensures { IfOk result (λ items. items ≡ map spec.item (range_with_len 1 count)) }
 {
     let mut items = List::new(alloc);
@@ -71,7 +71,7 @@ fn items(alloc: Global, count: u32) -> Result<List<Item>, AllocError>
 /// The corpus of a rehearsal with so many items, 1 to 2,000. The items have the numbers from 1 on.
 pub fn rehearsal(alloc: Global, count: u32) -> Result<Corpus, AllocError>
     requires some { 1 ≤ count }
-    requires few { count ≤ 2_000 }
+    requires few { count ≤ spec.most_rehearsed }
     ensures equals { IfOk result (λ corpus. corpus ≡ spec.rehearsal count) }
     ensures valid { IfOk result IsValid }
 {

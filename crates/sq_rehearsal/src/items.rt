@@ -15,7 +15,7 @@ fn numbered(alloc: Global, front: &str, number: u32) -> Result<Text, AllocError>
 
 /// The 20 words of an item's body.
 fn body(alloc: Global, item: u32) -> Result<Text, AllocError>
-    requires { item ≤ 2_000 }
+    requires { item ≤ spec.most_rehearsed }
     ensures { IfOk result (λ text. text ≡ spec.body item) }
 {
     let mut text = format!(in alloc; "w{}", item % 50)?;
@@ -63,7 +63,7 @@ fn value(property: u32, content: Content) -> Value
 }
 
 fn values(alloc: Global, item: u32) -> Result<List<Value>, AllocError>
-    requires { item ≤ 2_000 }
+    requires { item ≤ spec.most_rehearsed }
     ensures { IfOk result (λ values. values ≡ spec.values item) }
 {
     let title = numbered(alloc, "note w", item % 7)?;
@@ -76,7 +76,7 @@ fn values(alloc: Global, item: u32) -> Result<List<Value>, AllocError>
 
 /// The item with this number.
 pub(crate) fn item(alloc: Global, number: u32) -> Result<Item, AllocError>
-    requires { number ≤ 2_000 }
+    requires { number ≤ spec.most_rehearsed }
     ensures { IfOk result (λ item. item ≡ spec.item number) }
 {
     Ok(Item {

@@ -2,9 +2,9 @@
 use Rattle.std.proofs.Common.{◌≡◌, ℕ, ℤ, ◌≤◌, true, List, [], ◌∷◌, length, is_some, refl, ap, arith}
 use Rattle.std.specs.Prelude.{nat_le}
 use Rattle.std.proofs.lemmas.Bool.Decides.{nat_tests}
+use Rattle.sq_base.specs.Limits.{most_corpus_bytes, most_packet_bytes}
 use Rattle.sq_model.specs.declared.corpus.Caller.{Caller}
 use Rattle.sq_model.specs.declared.corpus.Corpus.{Corpus}
-use Rattle.sq_model.specs.Limits.{most_corpus_bytes}
 use Rattle.sq_packet.specs.declared.request.Direction.{Direction}
 use Rattle.sq_packet.specs.declared.request.Request.{Request}
 use Rattle.sq_response.specs.declared.response.Found.{Found}
@@ -14,7 +14,7 @@ use Rattle.sq_engine.specs.Verdict.{verdict, knows, said, unless_empty}
 use Rattle.sq_run.specs.Complete.{IsGood, PacketsAreAnswered, TextsAreAnswered, TextsAreLowered, RequestsAreAnswered, answer_of}
 use Rattle.sq_run.specs.Desk.{desk_response, response_of}
 use Rattle.sq_run.specs.Output.{order_outcome, loaded}
-use Rattle.sq_run.specs.Replies.{answer_outcome, most_packet_bytes, packet_outcome, status_of, work_outcome}
+use Rattle.sq_run.specs.Replies.{answer_outcome, packet_outcome, status_of, work_outcome}
 
 short_corpus : (n : ℕ) → n ≤ most_corpus_bytes → nat_le n most_corpus_bytes ≡ true
 short_corpus n h = grind (arith, nat_tests)

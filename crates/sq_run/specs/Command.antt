@@ -4,6 +4,7 @@ use Rattle.std.specs.Char.{is_ascii_digit}
 use Rattle.std.specs.List.{list_all}
 use Rattle.std.specs.Str.{bytes_eq}
 use Rattle.std.specs.Str.Parse.{digits_value}
+use Rattle.sq_rehearsal.specs.Rehearsal.{most_rehearsed}
 use Rattle.sq_packet.specs.declared.request.Language.{Language}
 use Rattle.sq_packet.specs.declared.request.Language.TheVariants.{Kql, Fql}
 use Rattle.sq_run.specs.declared.command.Command.{Command}
@@ -40,12 +41,9 @@ is_plain (c ∷ cs) = nat_le 49 c && nat_le c 57 && list_all is_ascii_digit cs
 abbrev pub count_to : ℕ → List ℕ → Option ℕ
 count_to most word = if is_plain word && nat_le (digits_value 10 word) most then Some (digits_value 10 word) else None
 
--- how many connections are served at most, and of how many items the corpus of a rehearsal is at most
+-- how many connections are served at most
 abbrev pub most_served : ℕ
 most_served = 1_000_000
-
-abbrev pub most_rehearsed : ℕ
-most_rehearsed = 2_000
 
 abbrev pub serving_of : List ℕ → Option Order
 serving_of word = option_map Serving (count_to most_served word)

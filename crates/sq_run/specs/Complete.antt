@@ -1,13 +1,13 @@
 -- Whoever is known and asks what nothing is refused of is answered.
 use Rattle.std.specs.Prelude.{◌≡◌, ℕ, ℤ, ◌≤◌, Bool, List, [], ◌∷◌, ◌++◌, length, codes, Some, None, Ok}
 use Rattle.std.specs.List.{find}
+use Rattle.sq_base.specs.Limits.{most_corpus_bytes, most_packet_bytes}
 use Rattle.sq_schema.specs.Intervals.{clamped}
 use Rattle.sq_model.specs.declared.corpus.Caller.{Caller}
 use Rattle.sq_model.specs.declared.corpus.Corpus.{Corpus}
 use Rattle.sq_model.specs.declared.kql.Joiner.TheVariants as joiner
 use Rattle.sq_model.specs.declared.kql.KTree.{KTree}
 use Rattle.sq_model.specs.Access.{view}
-use Rattle.sq_model.specs.Limits.{most_corpus_bytes}
 use Rattle.sq_corpus.specs.CorpusText.{corpus_of}
 use Rattle.sq_fql.specs.Canon.{canon}
 use Rattle.sq_lower.specs.Lowered.{lowered}
@@ -24,7 +24,7 @@ use Rattle.sq_engine.specs.Verdict.{Verdict, is_named, verdict, is_refinable, fi
 use Rattle.sq_run.specs.Command.{language_of}
 use Rattle.sq_run.specs.Desk.{response_of}
 use Rattle.sq_run.specs.Output.{output}
-use Rattle.sq_run.specs.Replies.{known_of, request_of, answer_outcome, most_packet_bytes}
+use Rattle.sq_run.specs.Replies.{known_of, request_of, answer_outcome}
 use Rattle.sq_run.specs.Serving.{known_reply}
 
 -- what a request's text means that was read as this query

@@ -11,7 +11,7 @@ use Rattle.sq_engine.specs.Answers.{Answers}
 use Rattle.sq_rehearsal.specs.declared.asking.Question.{Question}
 use Rattle.sq_rehearsal.specs.Questions.{questions}
 use Rattle.sq_rehearsal.specs.Rehearsal.{rehearsal}
-use Rattle.sq_run.specs.Replies.{Outcome}
+use Rattle.sq_run.specs.Replies.{Printed}
 
 abbrev pub no_hit : List ℕ
 no_hit = codes "0\n"
@@ -38,7 +38,7 @@ abbrev pub rehearsed_lines : Says → ℤ → List ℕ
 rehearsed_lines says moment = flat_map (question_line says moment) questions
 
 -- the twelve lines, by what is said of each corpus
-abbrev pub rehearsal_outcome : (Corpus → Says) → ℤ → ℕ → Outcome
+abbrev pub rehearsal_outcome : (Corpus → Says) → ℤ → ℕ → Printed
 rehearsal_outcome said_of moment count = record { status = 0; text = rehearsed_lines (said_of (rehearsal count)) (clamped moment) }
 
 -- the text tells the hits of whatever verdict was answered

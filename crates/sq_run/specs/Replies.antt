@@ -4,12 +4,14 @@ use Rattle.std.specs.Fmt.{decimal, signed_decimal}
 use Rattle.std.specs.Global.{Global}
 use Rattle.sq_base.specs.declared.faults.ReadAll.{ReadAll}
 use Rattle.sq_base.specs.declared.faults.ReadAll.TheVariants as all
-use Rattle.sq_base.specs.Outcome.{Outcome as Reading}
+use Rattle.sq_base.specs.Outcome.{Outcome}
+use Rattle.sq_base.specs.Limits.{most_packet_bytes}
 use Rattle.sq_schema.specs.declared.property.Property.{Property}
 use Rattle.sq_model.specs.declared.corpus.Corpus.{Corpus}
 use Rattle.sq_model.specs.declared.kql.Joiner.TheVariants as joiner
 use Rattle.sq_packet.specs.declared.request.Language.{Language}
 use Rattle.sq_packet.specs.declared.request.Request.{Request}
+use Rattle.sq_packet.specs.Limits.{most_hits}
 use Rattle.sq_response.specs.declared.response.Hit.{Hit}
 use Rattle.sq_response.specs.declared.response.Response.{Response}
 use Rattle.sq_response.specs.declared.response.Response.TheVariants as response
@@ -22,12 +24,12 @@ use Rattle.sq_run.specs.Command.{Work, Checking, Asking, Lowering, Packing}
 use Rattle.sq_run.specs.Desk.{nobody, desk_response}
 
 -- a status, and the whole text that is written with it
-pub record Outcome : Type 0 where
+pub record Printed : Type 0 where
   pub status : ℕ
   pub text : List ℕ
 
 -- a reply with the outcome's status and its whole text
-pub record IsReply (outcome : Outcome) (reply : Reply) : Type 0 where
+pub record IsReply (outcome : Printed) (reply : Reply) : Type 0 where
   pub status : reply.status ≡ outcome.status
   pub text : reply.text.items ≡ outcome.text
 
@@ -82,18 +84,18 @@ request_of language text = record {
   language = language;
   text = text;
   start = 1;
-  count = 500;
+  count = most_hits;
   properties = [];
   refiners = [];
   sorts = [];
   implicit_and = true;
 }
 
-abbrev pub refusal : ℕ → ℕ → Outcome
+abbrev pub refusal : ℕ → ℕ → Printed
 refusal code place = record { status = 1; text = fault_text code place }
 
 -- the total of all hits, and a line for each hit of the page; or the fault
-abbrev pub answer_outcome : Verdict → Outcome
+abbrev pub answer_outcome : Verdict → Printed
 answer_outcome Unknown = refusal 511 0
 answer_outcome (Faulty fault) = refusal fault.code fault.at
 answer_outcome (NoRefiner i) = refusal 509 i
@@ -101,11 +103,11 @@ answer_outcome (NoSort i) = refusal 516 i
 answer_outcome Nothing = record { status = 0; text = total_text 0 }
 answer_outcome (Shows found) = record { status = 0; text = total_text found.total ++ flat_map hit_text found.hits }
 
-abbrev pub check_outcome : Known → Outcome
+abbrev pub check_outcome : Known → Printed
 check_outcome known = record { status = 0; text = check_text (length known.schema) known.callers known.items }
 
 -- the text by itself, or why there is none
-abbrev pub lowered_outcome : Reading (List ℕ) → Outcome
+abbrev pub lowered_outcome : Outcome (List ℕ) → Printed
 lowered_outcome (Ok text) = record { status = 0; text = text ++ 10 ∷ [] }
 lowered_outcome (Err fault) = refusal fault.code fault.at
 
@@ -116,23 +118,19 @@ status_of response.Nothing = 0
 status_of (response.BadQuery fault) = 1
 status_of (response.BadRequest fault) = 1
 
-abbrev pub response_outcome : Response → Outcome
+abbrev pub response_outcome : Response → Printed
 response_outcome told = record { status = status_of told; text = response_text told }
 
 -- a corpus or a packet is too long
-abbrev pub too_long : Outcome
+abbrev pub too_long : Printed
 too_long = record { status = 8; text = [] }
-
--- how many bytes a packet may have
-abbrev pub most_packet_bytes : ℕ
-most_packet_bytes = 131_072
 
 -- the response to a packet of anybody
 abbrev pub packet_answer : Known → ℤ → List ℕ → List ℕ → Response
 packet_answer known moment caller body = if known.names caller then desk_response known.says caller moment body else nobody
 
 -- and what is written, where the packet isn't too long
-unfoldable pub packet_outcome : Known → ℤ → List ℕ → List ℕ → Outcome
+unfoldable pub packet_outcome : Known → ℤ → List ℕ → List ℕ → Printed
 packet_outcome known moment caller body =
     if nat_le (length body) most_packet_bytes then response_outcome (packet_answer known moment caller body) else too_long
 
@@ -144,7 +142,7 @@ ReadsPacket left (Err all.Fault) = Unit {0}
 ReadsPacket left (Err all.NoMemory) = Unit {0}
 
 -- What is written of what is known of a corpus, at a moment. A packet is the input; nothing where it isn't told.
-unfoldable pub work_outcome : Known → ℤ → Option (List ℕ) → Work → Option Outcome
+unfoldable pub work_outcome : Known → ℤ → Option (List ℕ) → Work → Option Printed
 work_outcome known moment input Checking = Some (check_outcome known)
 work_outcome known moment input (Asking caller language text) = Some (answer_outcome (known.says caller moment (request_of language text)))
 work_outcome known moment input (Lowering text) = Some (lowered_outcome (lowered_of known.schema moment joiner.All text))

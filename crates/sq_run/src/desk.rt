@@ -1,5 +1,6 @@
 //! The desk: it answers the packets of callers over an engine.
 ghost use Rattle.std.specs.Prelude.{◌≡◌, ◌≤◌, length, IfOk};
+ghost use Rattle.sq_base.specs.Limits.{most_packet_bytes};
 ghost use Rattle.sq_schema.specs.Intervals.{clamped as moment};
 ghost use Rattle.sq_packet.specs.Asked.{IsAsked};
 ghost use Rattle.sq_run.specs.Desk.{desk_reply, desk_response, response_of};
@@ -51,7 +52,7 @@ pub fn respond<E: Engine>(
     now: i64,
     body: &[u8],
 ) -> Result<Response, AllocError>
-    requires body { length body.now ≤ 131072 }
+    requires body { length body.now ≤ most_packet_bytes }
     requires now { now ≡ moment now }
     ensures { IfOk result (λ response. response ≡ desk_response (E.says engine.now) caller.now now body.now) }
 {

@@ -1,5 +1,6 @@
 //! The rehearsal.
 ghost use Rattle.std.specs.Prelude.{◌≡◌, ◌≤◌, ◌++◌, All, IfOk, OnOk, string_bytes, flat_map};
+ghost use Rattle.sq_rehearsal.specs.Rehearsal.{most_rehearsed};
 ghost use Rattle.sq_schema.specs.Intervals.{clamped as moment};
 ghost use Rattle.sq_packet.specs.Asked.{IsAsked};
 ghost use Rattle.sq_run.specs.Replies.{IsReply};
@@ -80,7 +81,7 @@ pub fn rehearse_reply<D: Loader>(
     count: u32,
 ) -> Result<Reply, AllocError>
     requires some { 1 ≤ count }
-    requires few { count ≤ 2000 }
+    requires few { count ≤ most_rehearsed }
     ensures { IfOk result (IsReply (spec.rehearsal_outcome (D.says loader.now) now count)) }
 {
     let corpus = rehearsal(alloc, count)?;

@@ -1,6 +1,7 @@
 //! What is done with a corpus.
 ghost use Rattle.std.specs.Prelude.{◌≡◌, ◌≤◌, ◌⊎◌, Err, IfOk, IfSome, IsErrOf, option_map, length, vec_len, false};
 ghost use Rattle.sq_base.specs.Causes.{Rose};
+ghost use Rattle.sq_base.specs.Limits.{most_packet_bytes};
 ghost use Rattle.sq_schema.specs.Intervals.{clamped as moment};
 ghost use Rattle.sq_packet.specs.Asked.{IsAsked};
 ghost use Rattle.sq_run.specs.Command.{work_of, work_reads_input, Working};
@@ -14,16 +15,13 @@ use crate::load::{Unloaded, load};
 use crate::reply::{
     Reply, Stop, check_reply, found_reply, nothing_reply, refusal, silent, text_reply,
 };
-use sq_base::{Fault, List, ReadAll, Source, Text, read_all};
+use sq_base::{Fault, List, MOST_PACKET_BYTES, ReadAll, Source, Text, read_all};
 use sq_engine::{Engine, Loader, Refused, lowered_text};
 use sq_model::Joiner;
-use sq_packet::{Language, Request};
+use sq_packet::{Language, MOST_HITS, Request};
 use sq_response::{Response, write_response};
 use sq_schema::clamped;
 use std::alloc::{AllocError, Global};
-
-/// How many bytes a packet may have.
-const PACKET_LIMIT: usize = 131_072;
 
 /// The request of a text alone.
 pub fn request_of(alloc: Global, language: Language, text: &str) -> Result<Request, AllocError>
@@ -34,7 +32,7 @@ pub fn request_of(alloc: Global, language: Language, text: &str) -> Result<Reque
         language,
         text: Text::from_str(alloc, text)?,
         start: 1,
-        count: 500,
+        count: MOST_HITS,
         properties: List::new(alloc),
         refiners: List::new(alloc),
         sorts: List::new(alloc),
@@ -115,7 +113,7 @@ fn response_to<E: Engine>(
     now: i64,
     body: &[u8],
 ) -> Result<Response, AllocError>
-    requires body { length body.now ≤ 131072 }
+    requires body { length body.now ≤ most_packet_bytes }
     requires now { now ≡ moment now }
     ensures { IfOk result (λ response. response ≡ spec.packet_answer (spec.known_by E.Engine engine.now) now caller.now body.now) }
 {
@@ -134,7 +132,7 @@ fn body_reply<E: Engine>(
     now: i64,
     body: &[u8],
 ) -> Result<Reply, AllocError>
-    requires body { length body.now ≤ 131072 }
+    requires body { length body.now ≤ most_packet_bytes }
     requires now { now ≡ moment now }
     ensures reply { IfOk result (spec.IsReply (spec.response_outcome (spec.packet_answer (spec.known_by E.Engine engine.now) now caller.now body.now))) }
     ensures status { IfOk result (λ reply. reply.status ≤ 1) }
@@ -150,11 +148,11 @@ fn body_reply<E: Engine>(
 /// Reads the input to its end, where it isn't longer than a packet may be.
 fn read_packet_bytes<I: Source>(alloc: Global, input: &mut I) -> Result<Vec<u8>, ReadAll>
     ensures whole { spec.ReadsPacket (I.left input.old) result }
-    ensures small { IfOk result (λ bytes. vec_len bytes ≤ 131072) }
+    ensures small { IfOk result (λ bytes. vec_len bytes ≤ most_packet_bytes) }
     ensures fault { IsErrOf result ReadAll.Fault → Rose (I.faults input.old) (I.faults input.new) }
     ensures later { I.faults input.old ≤ I.faults input.new }
 {
-    read_all(alloc, input, PACKET_LIMIT)
+    read_all(alloc, input, MOST_PACKET_BYTES)
 }
 
 /// Reads the packet of a caller, and answers it.

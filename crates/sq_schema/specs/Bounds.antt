@@ -1,5 +1,5 @@
 -- The least and the greatest values: numbers of 64 bits signed, and moments of the years 0001 to 9999.
-use Rattle.std.specs.Prelude.{Bool, ◌&&◌, ℤ, pos, neg_ℤ, int_le}
+use Rattle.std.specs.Prelude.{ℕ, Bool, ◌&&◌, ℤ, pos, neg_ℤ, int_le}
 
 -- the number lies from first to last
 abbrev pub is_from_to : ℤ → ℤ → ℤ → Bool
@@ -23,3 +23,11 @@ greatest_moment = pos 253_402_300_799
 
 abbrev pub is_moment_value : ℤ → Bool
 is_moment_value n = is_from_to least_moment greatest_moment n
+
+-- dates have years from 0001 to this one
+abbrev pub greatest_year : ℕ
+greatest_year = 9_999
+
+-- the greatest moment about which intervals are named, in the year 8307
+abbrev pub greatest_now : ℤ
+greatest_now = pos 200_000_000_000

@@ -3,6 +3,7 @@ ghost use Rattle.std.specs.Prelude.{◌≡◌, ◌≤◌, length, IfOk, position
 ghost use Rattle.std.specs.List.{fold};
 ghost use Rattle.sq_schema.specs.Checksums as spec;
 ghost use Rattle.sq_schema.specs.Properties.{has_name};
+ghost use Rattle.sq_schema.specs.Limits.{most_rows};
 
 use crate::Property;
 use crate::rows::has_name;
@@ -47,7 +48,7 @@ fn is_named(row: &Property, row_sum: u32, name: &str, sum: u32) -> bool
 
 /// The first row of that name.
 pub(crate) fn position_of(rows: &[Property], sums: &[u32], name: &str) -> Option<u32>
-    requires few { length rows.now ≤ 64 }
+    requires few { length rows.now ≤ most_rows }
     requires sums { spec.AreChecksums sums.now rows.now }
     ensures { result ≡ position (has_name name.now) rows.now }
 {

@@ -4,15 +4,12 @@ ghost use Rattle.sq_model.specs.Valid.{IsValid};
 ghost use Rattle.sq_service.specs.ServiceOf.{IsServiceOf};
 
 use crate::service::Service;
-use sq_base::{ReadAll, Source, read_all};
+use sq_base::{MOST_CORPUS_BYTES, ReadAll, Source, read_all};
 use sq_corpus::{CorpusFault, read_corpus};
 use sq_engine::{LoadFault, Loader, alike_give_one_verdict};
 use sq_holding::{Holding, told_is_alike};
 use sq_model::Corpus;
 use std::alloc::{AllocError, Global};
-
-/// The most bytes of a corpus text.
-const MOST_BYTES: usize = 67_108_864;
 
 /// What makes services.
 #[derive(Clone, Copy, Debug)]
@@ -46,7 +43,7 @@ impl Loader for Services {
     ghost says = { λ _. said_of };
 
     fn load<S: Source>(&self, alloc: Global, source: &mut S) -> Result<Service, LoadFault> {
-        let bytes = match read_all(alloc, source, MOST_BYTES) {
+        let bytes = match read_all(alloc, source, MOST_CORPUS_BYTES as usize) {
             Ok(bytes) => bytes,
             Err(ReadAll::Fault) => return Err(LoadFault::ReadFault),
             Err(ReadAll::TooLong) => return Err(LoadFault::TooLong),

@@ -5,6 +5,7 @@ ghost use Rattle.sq_schema.specs.declared.property.Property.{Property};
 ghost use Rattle.sq_model.specs.Valid.{are_rising};
 ghost use Rattle.sq_packet.specs.Asked.{HasBuckets};
 ghost use Rattle.sq_packet.specs.declared.request.RefinerSpec.{RefinerSpec as Asked};
+ghost use Rattle.sq_packet.specs.Limits.{most_refiners};
 ghost use Rattle.sq_postings.specs.Indexed.{Indexed};
 ghost use Rattle.sq_engine.specs.Verdict as verdict;
 ghost use Rattle.sq_service.specs.Refining as spec;
@@ -50,7 +51,7 @@ fn is_refinable(schema: &Schema, refiner: &RefinerSpec) -> bool
 
 /// The number of the first refiner that is no refinable property.
 pub(crate) fn first_unrefinable(schema: &Schema, refiners: &[RefinerSpec]) -> Option<u32>
-    requires { length refiners.now ≤ 16 }
+    requires { length refiners.now ≤ most_refiners }
     ensures { result ≡ verdict.first_without (verdict.is_refinable schema.now) 0 refiners.now }
 {
     for (i, refiner) in refiners.iter().enumerate() {

@@ -1,5 +1,6 @@
 -- The passages that an expression looks at, by row and part.
 use Rattle.std.specs.Prelude.{ℕ, ◌/◌, ◌==◌, Bool, if◌then◌else◌, List, [], slice_get}
+use Rattle.sq_base.specs.Limits.{most_values}
 use Rattle.sq_schema.specs.declared.property.Property.{Property}
 use Rattle.sq_model.specs.Passages.{Passage, is_searchable}
 use Rattle.sq_model.specs.declared.corpus.Corpus.{Corpus}
@@ -13,4 +14,4 @@ looks_at Searchable schema property = is_searchable (slice_get schema property)
 
 -- the passage of a row and a part where it is looked at, and else no tokens; a part is 1,000 times the property, and the place among its values
 abbrev pub passage_looked : Corpus → Look → ℕ → ℕ → Passage
-passage_looked corpus look row part = if looks_at look corpus.schema (part / 1_000) then passage_at corpus.items row part else []
+passage_looked corpus look row part = if looks_at look corpus.schema (part / most_values) then passage_at corpus.items row part else []

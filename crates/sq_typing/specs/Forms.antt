@@ -1,9 +1,11 @@
 -- Proximity expressions of KQL in which no list is empty, and what is known of the forms that they take by the weights of their parts.
 use Rattle.std.specs.Prelude.{◌≡◌, ℕ, ◌+◌, ◌<◌, ◌≤◌, nat_eq, nat_le, Bool, true, false, not, ◌&&◌, List, [], ◌∷◌, ◌++◌, map, filter}
 use Rattle.std.specs.List.{flat_map}
+use Rattle.sq_base.specs.Limits.{greatest_distance}
 use Rattle.sq_model.specs.Lists.{is_empty}
 use Rattle.sq_model.specs.KqlSound.{LeafSound, LeavesSound}
 use Rattle.sq_model.specs.declared.kql.KTree.{KTree, Free, Words, Group', Near', Or', Row_of-KTree, end_of-KTree, more_of-KTree}
+use Rattle.sq_model.specs.Limits.{most_copies}
 use Rattle.sq_typing.specs.declared.forms.Forms.{Forms}
 use Rattle.sq_typing.specs.declared.forms.Forms.TheVariants.{Many, Few}
 
@@ -33,7 +35,7 @@ abbrev mutual
   ProximitySound (Words leaves) = (is_empty leaves ≡ false) × LeavesSound leaves
   ProximitySound (Group' s inside) = SomeProximitySound inside
   ProximitySound (Or' shape parts) = SomeProximitySound parts
-  ProximitySound (Near' s left t right n ordered) = SomeProximitySound left × SomeProximitySound right × (nat_le n 1_000 ≡ true)
+  ProximitySound (Near' s left t right n ordered) = SomeProximitySound left × SomeProximitySound right × (nat_le n greatest_distance ≡ true)
   ProximitySound _ = ⊥
 
   -- there is a part, and all are sound
@@ -59,8 +61,8 @@ with_all ns (m ∷ ms) = with_all (with_last ns m) ms
 
 -- what is known of an expression with these weights and so many copies
 abbrev pub IsCount : List ℕ → ℕ → Forms → Type 0
-IsCount weights copies Many = 256 < copies
-IsCount weights copies (Few found number) = (found.items ≡ weights) × (number ≡ copies) × (number ≤ 256)
+IsCount weights copies Many = most_copies < copies
+IsCount weights copies (Few found number) = (found.items ≡ weights) × (number ≡ copies) × (number ≤ most_copies)
 
 abbrev pub HasForms : Forms → Type 0
 HasForms Many = Unit {0}

@@ -9,6 +9,7 @@ use Rattle.sq_model.specs.declared.fql.SpanTree.{SpanTree}
 use Rattle.sq_model.specs.declared.fql.SpanTree.TheVariants as spans
 use Rattle.sq_model.specs.declared.fql.FTree.{FTree}
 use Rattle.sq_model.specs.declared.fql.FTree.TheVariants as tree
+use Rattle.sq_model.specs.Limits.{most_copies}
 use Rattle.sq_base.specs.Outcome.{Outcome, refused, ◌>>=◌}
 use Rattle.sq_fql.specs.declared.raw.FPiece.{FPiece}
 use Rattle.sq_fql.specs.declared.raw.Mode.{Mode}
@@ -79,9 +80,9 @@ module _ (schema : List Property) (look : Look) where
     proximate_each end_of-FRaw = []
     proximate_each (more_of-FRaw part rest) = proximate part ∷ proximate_each rest
 
--- an outermost proximity expression has at most 256 copies
+-- an outermost proximity expression has not too many copies
 unfoldable pub with_few_copies : ℕ → Look → SpanTree → Outcome FTree
-with_few_copies at look t = if nat_le (copies t) 256 then Ok (tree.Spans look t) else refused TOO_MANY_FORMS at
+with_few_copies at look t = if nat_le (copies t) most_copies then Ok (tree.Spans look t) else refused TOO_MANY_FORMS at
 
 abbrev pub few_copies : ℕ → Look → Outcome SpanTree → Outcome FTree
 few_copies at look near = near >>= with_few_copies at look

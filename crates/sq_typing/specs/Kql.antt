@@ -8,6 +8,7 @@ use Rattle.sq_model.specs.declared.kql.Sign.TheVariants as sign
 use Rattle.sq_model.specs.declared.kql.KOperand.{KOperand}
 use Rattle.sq_model.specs.declared.kql.KTree.{KTree}
 use Rattle.sq_model.specs.declared.kql.KTree.TheVariants as tree
+use Rattle.sq_model.specs.Limits.{most_copies}
 use Rattle.sq_base.specs.Outcome.{Outcome, refused, ◌>>=◌}
 use Rattle.sq_kql.specs.declared.raw.Piece.{Piece}
 use Rattle.sq_kql.specs.declared.raw.RawSign.{RawSign}
@@ -29,9 +30,9 @@ operand_of s t = record { sign = sign_of s; tree = t }
 abbrev pub leaves_of : List Piece → List Leaf
 leaves_of pieces = map (λ p. leaf_of p.text) pieces
 
--- an outermost proximity expression has at most 256 copies
+-- an outermost proximity expression has not too many copies
 unfoldable pub with_few_copies : ℕ → KTree → Outcome KTree
-with_few_copies at t = if nat_le (copies t) 256 then Ok t else refused TOO_MANY_FORMS at
+with_few_copies at t = if nat_le (copies t) most_copies then Ok t else refused TOO_MANY_FORMS at
 
 abbrev pub few_copies : ℕ → Outcome KTree → Outcome KTree
 few_copies at near = near >>= with_few_copies at

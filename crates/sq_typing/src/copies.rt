@@ -6,6 +6,7 @@ ghost use Rattle.sq_model.specs.Triples.{choices};
 ghost use Rattle.sq_model.specs.Copies.{distinct, greatest, product};
 ghost use Rattle.sq_model.specs.KqlCopies.{weights, copies};
 ghost use Rattle.sq_model.specs.declared.kql.KTree.{KTree};
+ghost use Rattle.sq_model.specs.Limits.{most_copies};
 ghost use Rattle.sq_typing.specs.Forms.{is_filled, IsCount, HasForms};
 
 use crate::forms::{Forms, near_forms, put_all, weight_of, weights_of};
@@ -112,7 +113,7 @@ fn forms_of_some(alloc: Global, parts: &[KTree]) -> Result<Forms, AllocError>
 /// Whether an expression takes no more forms than may be.
 pub(crate) fn are_few(alloc: Global, tree: &KTree) -> Result<bool, AllocError>
     requires { is_filled tree.now ≡ true }
-    ensures { IfOk result (λ few. few ≡ nat_le (copies tree.now) 256) }
+    ensures { IfOk result (λ few. few ≡ nat_le (copies tree.now) most_copies) }
 {
     match forms_of(alloc, tree)? {
         Forms::Many => Ok(false),

@@ -2,13 +2,14 @@
 ghost use Rattle.std.specs.Prelude.{◌≡◌, ◌+◌, ◌*◌, ◌<◌, ◌≤◌, [], ◌∷◌, ◌++◌, map, sum, length, IfOk, OnOk, MatchOption};
 ghost use Rattle.sq_model.specs.Triples.{choices};
 ghost use Rattle.sq_model.specs.Copies.{distinct, product};
+ghost use Rattle.sq_model.specs.Limits.{most_copies};
 ghost use Rattle.sq_typing.specs.Forms.{sums_of, with_last, with_all, IsCount};
 
 use sq_model::Leaf;
 use std::alloc::{AllocError, Global};
 
-/// The most forms that an expression may take.
-const MOST_FORMS: u64 = 256;
+/// The most copies that an expression may take, one for each form.
+const MOST_COPIES: u64 = 256;
 
 /// What is known of the forms that an expression takes.
 #[derive(Drop)]
@@ -92,11 +93,11 @@ pub(crate) fn sums_of(
 /// The product of the three, where it is not too many.
 pub(crate) fn few_of(firsts: usize, seconds: usize, greatest: u64) -> Option<u64>
     requires { 0 < greatest }
-    ensures { MatchOption result (256 < firsts * (seconds * 1) * greatest) (λ number. (number ≡ firsts * (seconds * 1) * greatest) × (number ≤ 256)) }
+    ensures { MatchOption result (most_copies < firsts * (seconds * 1) * greatest) (λ number. (number ≡ firsts * (seconds * 1) * greatest) × (number ≤ most_copies)) }
 {
     let pairs = (firsts as u64).checked_mul(seconds as u64)?;
     let copies = pairs.checked_mul(greatest)?;
-    if copies <= MOST_FORMS {
+    if copies <= MOST_COPIES {
         Some(copies)
     } else {
         None

@@ -1,6 +1,7 @@
 //! Literals with their patterns.
 
 ghost use Rattle.std.specs.Prelude.{◌≡◌, ◌<◌, None, All, length, IfOk};
+ghost use Rattle.sq_base.specs.Limits.{kql_byte_bound};
 ghost use Rattle.sq_tokens.specs.Pattern.{first_bad_star};
 ghost use Rattle.sq_typing.specs.Formed.{IsLiteral};
 ghost use Rattle.sq_typing.specs.KqlValues.{literal, leaf_of};
@@ -16,7 +17,7 @@ use std::alloc::{AllocError, Global};
 #[tactic(auto, unfolding(crate::specs::KqlValues::literal))]
 pub(crate) fn literal(alloc: Global, text: &str) -> Result<Option<Leaf>, AllocError>
     requires starless { first_bad_star text.now ≡ None }
-    requires short { length text.now < 1_000_000 }
+    requires short { length text.now < kql_byte_bound }
     ensures { IfOk result (λ leaf. leaf ≡ literal text.now) }
 {
     match pattern_of(alloc, text) {

@@ -4,6 +4,7 @@ ghost use Rattle.std.specs.List.{list_all};
 ghost use Rattle.sq_model.specs.Lists.{joined};
 ghost use Rattle.sq_model.specs.Triples.{choices};
 ghost use Rattle.sq_model.specs.Copies.{distinct, greatest, product, weights, copies};
+ghost use Rattle.sq_model.specs.Limits.{most_copies};
 ghost use Rattle.sq_typing.specs.Forms.{IsCount};
 ghost use Rattle.sq_typing.specs.SpanForms.{is_filled};
 
@@ -13,7 +14,7 @@ use std::alloc::{AllocError, Global};
 
 /// The forms of a near by the sums that take one weight of each part, and the greatest copies of a part.
 fn forms_by_sums(alloc: Global, sums: &[u64], greatest: u64) -> Result<Forms, AllocError>
-    requires { length sums.now * greatest ≤ 256 }
+    requires { length sums.now * greatest ≤ most_copies }
     ensures { IfOk result (IsCount (distinct sums.now) (length sums.now * greatest)) }
 {
     let weights = each_once(alloc, sums)?;
@@ -116,7 +117,7 @@ fn forms_of_all(alloc: Global, parts: &[SpanTree]) -> Result<Forms, AllocError>
 /// Whether an expression takes no more forms than may be.
 pub(crate) fn are_few_spans(alloc: Global, tree: &SpanTree) -> Result<bool, AllocError>
     requires { is_filled tree.now ≡ true }
-    ensures { IfOk result (λ few. few ≡ nat_le (copies tree.now) 256) }
+    ensures { IfOk result (λ few. few ≡ nat_le (copies tree.now) most_copies) }
 {
     match forms_of(alloc, tree)? {
         Forms::Many => Ok(false),

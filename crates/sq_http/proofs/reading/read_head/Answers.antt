@@ -26,11 +26,11 @@ pub reading-preserved : goal.reading-preserved
 reading-preserved g c =
     let inv = c.reading.invariant in
     let fill = c.fill.ensures in
-    let waiting : cut (held c.reading.buffer) ≡ Waiting = waits (held c.reading.buffer) _ (c.front.ensures ∙ ap (take 8192) c.as_slice.ensures) (sym c.head_length.ensures.value ∙ c.in-None.is) (omega (arith, c.if-len-gt-HEAD_LIMIT.false, c.len.ensures)) in
+    let waiting : cut (held c.reading.buffer) ≡ Waiting = waits (held c.reading.buffer) _ (c.front.ensures ∙ ap (take 8192) c.as_slice.ensures) (sym c.head_length.ensures.value ∙ c.in-None.is) (omega (arith, c.if-len-gt-MOST_HEAD_BYTES.false, c.len.ensures)) in
     let opened : cut (held c.args.buffer.now ++ gained (held c.args.buffer.now) (held c.reading.buffer)) ≡ Waiting = subst (λ (t : List ℕ). cut t ≡ Waiting) inv.0 waiting in (
       held-more (λ first. cut (held c.args.buffer.now ++ first) ≡ Waiting) _ _ _ inv.0 fill.held,
       Gathers-fill (λ first. cut (held c.args.buffer.now ++ first) ≡ Waiting) _ _ _ inv.0 fill.held _ _ _ _ _ _ _ _ inv.4 opened inv.1 fill.gathers,
-      omega (arith, fill.most, c.len-in-reading.ensures, c.if-len-gt-HEAD_LIMIT.false, c.len.ensures),
+      omega (arith, fill.most, c.len-in-reading.ensures, c.if-len-gt-MOST_HEAD_BYTES.false, c.len.ensures),
       fill.room ∙ inv.3,
       fill.sent ∙ inv.4,
       omega (arith, fill.cause.later, inv.5),
@@ -41,7 +41,7 @@ pub returns-in_err-fill-clause-gathers : goal.returns-in_err-fill-clause-gathers
 returns-in_err-fill-clause-gathers g c =
     let inv = c.reading.invariant in
     let fill = c.fill.ensures in
-    let waiting : cut (held c.reading.buffer) ≡ Waiting = waits (held c.reading.buffer) _ (c.front.ensures ∙ ap (take 8192) c.as_slice.ensures) (sym c.head_length.ensures.value ∙ c.in-None.is) (omega (arith, c.if-len-gt-HEAD_LIMIT.false, c.len.ensures)) in
+    let waiting : cut (held c.reading.buffer) ≡ Waiting = waits (held c.reading.buffer) _ (c.front.ensures ∙ ap (take 8192) c.as_slice.ensures) (sym c.head_length.ensures.value ∙ c.in-None.is) (omega (arith, c.if-len-gt-MOST_HEAD_BYTES.false, c.len.ensures)) in
     let opened : cut (held c.args.buffer.now ++ gained (held c.args.buffer.now) (held c.reading.buffer)) ≡ Waiting = subst (λ (t : List ℕ). cut t ≡ Waiting) inv.0 waiting in
     Gathers-fill (λ first. cut (held c.args.buffer.now ++ first) ≡ Waiting) _ _ _ inv.0 fill.held _ _ _ _ _ _ _ _ inv.4 opened inv.1 fill.gathers
 
@@ -49,7 +49,7 @@ pub returns-then-not-branch-clause-gathers : goal.returns-then-not-branch-clause
 returns-then-not-branch-clause-gathers g c =
     let inv = c.reading.invariant in
     let fill = c.fill.ensures in
-    let waiting : cut (held c.reading.buffer) ≡ Waiting = waits (held c.reading.buffer) _ (c.front.ensures ∙ ap (take 8192) c.as_slice.ensures) (sym c.head_length.ensures.value ∙ c.in-None.is) (omega (arith, c.if-len-gt-HEAD_LIMIT.false, c.len.ensures)) in
+    let waiting : cut (held c.reading.buffer) ≡ Waiting = waits (held c.reading.buffer) _ (c.front.ensures ∙ ap (take 8192) c.as_slice.ensures) (sym c.head_length.ensures.value ∙ c.in-None.is) (omega (arith, c.if-len-gt-MOST_HEAD_BYTES.false, c.len.ensures)) in
     let opened : cut (held c.args.buffer.now ++ gained (held c.args.buffer.now) (held c.reading.buffer)) ≡ Waiting = subst (λ (t : List ℕ). cut t ≡ Waiting) inv.0 waiting in
     Gathers-fill (λ first. cut (held c.args.buffer.now ++ first) ≡ Waiting) _ _ _ inv.0 fill.held _ _ _ _ _ _ _ _ inv.4 opened inv.1 fill.gathers
 

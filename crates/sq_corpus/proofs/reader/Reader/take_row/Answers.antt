@@ -11,7 +11,7 @@ returns-in_ok-push-clause-kept c = record {
   counted = c.requires.counted;
   sound =
       let good : c.in_ok-sound.sound ≡ true = c.if-not-sound.false in
-      let room : length c.args.self.now.before.rows < 64 = subst (λ n. n < 64) c.len.ensures c.if-len-ge-ROW_LIMIT.false in
+      let room : length c.args.self.now.before.rows < 64 = subst (λ n. n < 64) c.len.ensures c.if-len-ge-MOST_ROWS.false in
       rw (c.in_ok-push.ensures.ok, c.in_ok-row.ensures)
       (sound_more c.args.self.now.before.rows (row_of c.args.name.now c.args.kind c.args.flags) c.requires.sound
       (ap is_sound (sym c.in_ok-row_of.ensures) ∙ sym c.in_ok-sound.ensures ∙ good)
