@@ -20,6 +20,11 @@ pub same_rows : (f g : ℕ → Option ℤ) (rows : List ℕ) → ((r : ℕ) → 
 same_rows f g [] same = refl
 same_rows f g (row ∷ rows) same = ap₂ cons_option (ap (hit row) (same row)) (same_rows f g rows same)
 
+-- no row has a score
+pub scored_none : (f : ℕ → Option ℤ) (rows : List ℕ) → ((r : ℕ) → f r ≡ None) → scored_rows f rows ≡ []
+scored_none f [] none = refl
+scored_none f (row ∷ rows) none = ap (λ score. cons_option (hit row score) (scored_rows f rows)) (none row) ∙ scored_none f rows none
+
 -- the first row is passed, and those behind it score as before
 pub later_rows : (f g : ℕ → Option ℤ) (rows : List ℕ) (row : ℕ) → IsRising rows → first_row rows ≡ Some row → ((r : ℕ) → row < r → g r ≡ f r) →
     scored_rows g (without_row rows) ≡ scored_rows f (without_row rows)

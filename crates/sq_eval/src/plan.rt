@@ -2,7 +2,7 @@ ghost use Rattle.std.specs.Prelude.{◌≡◌, ◌+◌, ◌≤◌, IfOk, MatchRe
 ghost use Rattle.sq_eval.specs.Meaning.{HasHits, IsWithinCost};
 
 use crate::build::node_of;
-use sq_base::Steps;
+use sq_base::{Steps, Text};
 use sq_cursor::ItemCursor;
 use sq_model::FTree;
 use sq_nodes::Node;
@@ -24,23 +24,32 @@ impl<'a> Plan<'a> {
     ghost use Rattle.sq_eval.specs.Plans.{admitted_left, plan_left, plan_rest, first, without_first};
     ghost use Rattle.sq_nodes.specs.Scores.{node_score};
 
-    /// The plan of an expression, over rows that a caller may see. Steps and rest together are at most
-    /// what the expression costs, and the rest of the admitted rows.
+    /// The plan of an expression, over the rows that a caller with these claims may see. Steps and rest together are at
+    /// most what the claims and the expression cost. No row of a claim is read where the expression holds of no row.
     pub fn begin<L: Ledger>(
         alloc: Global,
         index: &'a Index,
+        claims: &[Text],
         tree: &FTree,
-        admitted: Admitted,
         steps: &mut Steps<L>,
     ) -> Result<Plan<'a>, AllocError>
-        ensures left { IfOk result (λ plan. HasHits index.now tree.now (⟦<Admitted as ItemCursor>⟧.left admitted) (plan_left plan)) }
+        ensures left { IfOk result (λ plan. HasHits index.now claims.now tree.now (plan_left plan)) }
         ensures cost { MatchResult result
-            (λ plan. IsWithinCost index.now tree.now (steps.old + ⟦<Admitted as ItemCursor>⟧.rest admitted) (steps.new + plan_rest plan))
-            (λ _. IsWithinCost index.now tree.now (steps.old + ⟦<Admitted as ItemCursor>⟧.rest admitted) steps.new) }
+            (λ plan. IsWithinCost index.now claims.now tree.now steps.old (steps.new + plan_rest plan))
+            (λ _. IsWithinCost index.now claims.now tree.now steps.old steps.new) }
     {
         let node = node_of(alloc, index, tree, steps)?;
-        let tree = Box::into_inner(node);
-        Ok(Plan { admitted, tree })
+        let mut tree = Box::into_inner(node);
+        match tree.skip_to(0, steps) {
+            Some(_) => {
+                let admitted = Admitted::begin(alloc, index, claims, steps)?;
+                Ok(Plan { admitted, tree })
+            }
+            None => {
+                let admitted = Admitted::none(alloc);
+                Ok(Plan { admitted, tree })
+            }
+        }
     }
 
     /// The score of the admitted row at hand, which is passed.

@@ -14,7 +14,6 @@ use Rattle.sq_packet.specs.declared.request.Request.{Request}
 use Rattle.sq_response.specs.declared.response.Found.{Found}
 use Rattle.sq_stored.specs.Laws.{ValuesStand, UrlsStand}
 use Rattle.sq_stored.specs.Stored.{stored_items}
-use Rattle.sq_trim.specs.Trimmed as trim
 use Rattle.sq_eval.specs.Meaning as plan
 use Rattle.sq_collect.specs.Laws.{ColumnsCountAsNumbers}
 use Rattle.sq_holding.specs.Held.{Held, held_of}
@@ -49,14 +48,13 @@ module _ (held : Held) (corpus : Corpus) (holds : Holds held corpus) (tree : FTr
   pub sound_here : IsSound held.schema tree → IsSound corpus.schema tree
   sound_here sound = subst (λ (schema : List Property). IsSound schema tree) holds.schema sound
 
-  module _ (claims : List (List ℕ)) (sorts : List Sort) (pairs : List (ℕ × ℤ)) (rows : List ℕ)
-      (sound : IsSound held.schema tree) (admitted : trim.AreAdmitted held.index claims rows) (planned : plan.HasHits held.index tree rows pairs) where
+  module _ (claims : List (List ℕ)) (sorts : List Sort) (pairs : List (ℕ × ℤ)) (sound : IsSound held.schema tree) (planned : plan.HasHits held.index claims tree pairs) where
     abbrev kept_here : List (walk.One corpus holds.valid held.index holds.index)
     kept_here = walk.kept corpus holds.valid held.index holds.index claims tree sorts
 
     pairs_kept : pairs ≡ map (walk.pair_at corpus holds.valid held.index holds.index claims tree sorts) kept_here
     pairs_kept =
-        planned corpus holds.valid holds.index (sound_here sound) ∙ ap (plan.hits corpus tree) (admitted corpus holds.valid holds.index)
+        planned corpus holds.valid holds.index (sound_here sound)
         ∙ walk.pairs_are corpus holds.valid held.index holds.index claims tree sorts
 
     seen_kept : hits (meaning_by_tree corpus.schema tree) (view corpus claims) ≡ map (walk.seen_at corpus holds.valid held.index holds.index) kept_here
@@ -108,7 +106,7 @@ module _ (held : Held) (corpus : Corpus) (holds : Holds held corpus) (tree : FTr
           ap (λ (h : Held). found.collected_cost h sorts request) held_path
           ∙ ap₂ (λ (a b : ℕ). a + b) (walk.sorts_cost_again corpus holds.valid held.index holds.index sorts few sorts_within) (walk.refiners_cost_again corpus holds.valid held.index holds.index request.refiners)
 
-      pub price_here : (before begun rest planned_at left after : ℕ) → begun + rest ≤ before + claim_cost corpus claims → planned_at + left ≤ begun + rest + cost corpus tree
+      pub price_here : (before planned_at left after : ℕ) → planned_at + left ≤ before + (claim_cost corpus claims + cost corpus tree)
           → after ≤ planned_at + left + found.collected_cost held sorts request + found.page_cost held sorts request pairs
           → after ≤ before + price.answer_price corpus claims request tree (map sort_of sorts)
-      price_here before begun rest planned_at left after one two three = omega (arith, one, two, three, page_here, collected_here)
+      price_here before planned_at left after one two = omega (arith, one, two, page_here, collected_here)

@@ -26,7 +26,6 @@ use sq_model::{FTree, Joiner};
 use sq_packet::Request;
 use sq_response::Response;
 use sq_stored::{stored_urls_stand, stored_values_stand};
-use sq_trim::Admitted;
 use std::alloc::Global;
 use std::sync::ledger::Ledger;
 
@@ -64,8 +63,7 @@ fn answer_sorted<L: Ledger>(
     columns_count_as_numbers();
     stored_urls_stand();
     stored_values_stand();
-    let admitted = Admitted::begin(alloc, held.index(), claims, steps)?;
-    let plan = Plan::begin(alloc, held.index(), tree, admitted, steps)?;
+    let plan = Plan::begin(alloc, held.index(), claims, tree, steps)?;
     match found_of(alloc, held, plan, sorts, request, steps)? {
         Some(found) => Ok(Response::Found(found)),
         None => Ok(Response::Nothing),

@@ -13,7 +13,6 @@ use sq_model::{Corpus, FTree, Joiner, admits};
 use sq_postings::Index;
 use sq_schema::Schema;
 use sq_slow::{fql_boost_slow, fql_holds_slow};
-use sq_trim::Admitted;
 use sq_typing::type_fql;
 use std::alloc::{AllocError, Global};
 use std::marker::Brand;
@@ -499,8 +498,7 @@ fn planned<L: Ledger>(
     requires some { 0 < blank.parts }
 {
     let steps = &mut Steps::<L>::new(blank);
-    let admitted = Admitted::begin(alloc, index, claims, steps)?;
-    let mut plan = Plan::begin(alloc, index, tree, admitted, steps)?;
+    let mut plan = Plan::begin(alloc, index, claims, tree, steps)?;
     let mut given = String::new(alloc);
     for _ in 0..=index.items() {
         match plan.next(steps) {

@@ -1,4 +1,4 @@
-ghost use Rattle.std.specs.Prelude.{◌≡◌, ◌+◌, ◌≤◌, ◌^◌, true, false, not, length, map, drop, slice_set, IfOk, MatchResult};
+ghost use Rattle.std.specs.Prelude.{◌≡◌, ◌+◌, ◌≤◌, ◌^◌, true, false, not, length, map, drop, [], slice_set, IfOk, MatchResult};
 ghost use Rattle.std.specs.Coded.{le_prop};
 ghost use Rattle.sq_cursor.specs.Rows.{without_first, rows_from};
 ghost use Rattle.sq_trim.specs.Flags.{flagged, left_of, left_rises, marked, marked_all};
@@ -133,6 +133,17 @@ impl Admitted {
         let flags = flags_of(alloc, index, claims, steps)?;
         let next = first_from(&flags, 0);
         Ok(Admitted { flags, next })
+    }
+
+    /// No rows, for whoever has nothing to ask of any.
+    pub fn none(alloc: Global) -> Admitted
+        ensures left { ⟦<Admitted as ItemCursor>⟧.left result ≡ [] }
+        ensures rest { ⟦<Admitted as ItemCursor>⟧.rest result ≡ 0 }
+    {
+        Admitted {
+            flags: Vec::new(alloc),
+            next: None,
+        }
     }
 }
 

@@ -5,51 +5,41 @@ use Rattle.sq_service.proofs.answer.answer_sorted.Goals as goal
 
 pub found_of-requires-clause-rising : goal.found_of-requires-clause-rising
 found_of-requires-clause-rising g c =
-    let admitted = rw c.index.ensures at c.in_ok-admitted.ensures.left in
-    let planned = rw c.index-2.ensures at c.in_ok-plan.ensures.left in
-    rising_here c.args.held.now c.tells.ensures.0 c.tells.ensures.1 c.args.tree.now c.args.claims.now c.args.sorts.now (plan_left c.in_ok-plan.plan) _ c.requires.sound admitted planned
+    let planned = rw c.index.ensures at c.in_ok-plan.ensures.left in
+    rising_here c.args.held.now c.tells.ensures.0 c.tells.ensures.1 c.args.tree.now c.args.claims.now c.args.sorts.now (plan_left c.in_ok-plan.plan) c.requires.sound planned
 
 pub found_of-requires-clause-within : goal.found_of-requires-clause-within
 found_of-requires-clause-within g c =
-    let admitted = rw c.index.ensures at c.in_ok-admitted.ensures.left in
-    let planned = rw c.index-2.ensures at c.in_ok-plan.ensures.left in
-    within_here c.args.held.now c.tells.ensures.0 c.tells.ensures.1 c.args.tree.now c.args.claims.now c.args.sorts.now (plan_left c.in_ok-plan.plan) _ c.requires.sound admitted planned
+    let planned = rw c.index.ensures at c.in_ok-plan.ensures.left in
+    within_here c.args.held.now c.tells.ensures.0 c.tells.ensures.1 c.args.tree.now c.args.claims.now c.args.sorts.now (plan_left c.in_ok-plan.plan) c.requires.sound planned
 
 pub returns-in-None-clause-says : goal.returns-in-None-clause-says
 returns-in-None-clause-says g c = λ corpus holds.
-    let admitted = rw c.index.ensures at c.in_ok-admitted.ensures.left in
-    let planned = rw c.index-2.ensures at c.in_ok-plan.ensures.left in
-    says_here c.args.held.now corpus holds c.args.tree.now c.args.claims.now c.args.sorts.now (plan_left c.in_ok-plan.plan) _ c.requires.sound admitted planned c.stored_values_stand.ensures c.stored_urls_stand.ensures c.columns_count_as_numbers.ensures c.requires.few c.requires.within c.args.request.now None (sym c.in-None.is ∙ c.in_ok-found.ensures.found)
+    let planned = rw c.index.ensures at c.in_ok-plan.ensures.left in
+    says_here c.args.held.now corpus holds c.args.tree.now c.args.claims.now c.args.sorts.now (plan_left c.in_ok-plan.plan) c.requires.sound planned c.stored_values_stand.ensures c.stored_urls_stand.ensures c.columns_count_as_numbers.ensures c.requires.few c.requires.within c.args.request.now None (sym c.in-None.is ∙ c.in_ok-found.ensures.found)
 
 pub returns-in-Some-clause-says : goal.returns-in-Some-clause-says
 returns-in-Some-clause-says g c = λ corpus holds.
-    let admitted = rw c.index.ensures at c.in_ok-admitted.ensures.left in
-    let planned = rw c.index-2.ensures at c.in_ok-plan.ensures.left in
-    says_here c.args.held.now corpus holds c.args.tree.now c.args.claims.now c.args.sorts.now (plan_left c.in_ok-plan.plan) _ c.requires.sound admitted planned c.stored_values_stand.ensures c.stored_urls_stand.ensures c.columns_count_as_numbers.ensures c.requires.few c.requires.within c.args.request.now (Some c.in-Some.found) (sym c.in-Some.is ∙ c.in_ok-found.ensures.found)
+    let planned = rw c.index.ensures at c.in_ok-plan.ensures.left in
+    says_here c.args.held.now corpus holds c.args.tree.now c.args.claims.now c.args.sorts.now (plan_left c.in_ok-plan.plan) c.requires.sound planned c.stored_values_stand.ensures c.stored_urls_stand.ensures c.columns_count_as_numbers.ensures c.requires.few c.requires.within c.args.request.now (Some c.in-Some.found) (sym c.in-Some.is ∙ c.in_ok-found.ensures.found)
 
 pub returns-in_err-found-clause-price : goal.returns-in_err-found-clause-price
 returns-in_err-found-clause-price g c = λ corpus holds.
-    let admitted = rw c.index.ensures at c.in_ok-admitted.ensures.left in
-    let planned = rw c.index-2.ensures at c.in_ok-plan.ensures.left in
-    let one = rw c.index.ensures at c.in_ok-admitted.ensures.cost in
-    let two = rw c.index-2.ensures at c.in_ok-plan.ensures.cost in
-    let two_here = two corpus holds.valid holds.index (sound_here c.args.held.now corpus holds c.args.tree.now c.requires.sound) in
-    price_here c.args.held.now corpus holds c.args.tree.now c.args.claims.now c.args.sorts.now (plan_left c.in_ok-plan.plan) _ c.requires.sound admitted planned c.stored_values_stand.ensures c.stored_urls_stand.ensures c.columns_count_as_numbers.ensures c.requires.few c.requires.within c.args.request.now _ _ _ _ _ _ (one corpus holds.valid holds.index) two_here c.found_of.ensures.cost
+    let planned = rw c.index.ensures at c.in_ok-plan.ensures.left in
+    let cost = rw c.index.ensures at c.in_ok-plan.ensures.cost in
+    let cost_here = cost corpus holds.valid holds.index (sound_here c.args.held.now corpus holds c.args.tree.now c.requires.sound) in
+    price_here c.args.held.now corpus holds c.args.tree.now c.args.claims.now c.args.sorts.now (plan_left c.in_ok-plan.plan) c.requires.sound planned c.stored_values_stand.ensures c.stored_urls_stand.ensures c.columns_count_as_numbers.ensures c.requires.few c.requires.within c.args.request.now _ _ _ _ cost_here c.found_of.ensures.cost
 
 pub returns-in-None-clause-price : goal.returns-in-None-clause-price
 returns-in-None-clause-price g c = λ corpus holds.
-    let admitted = rw c.index.ensures at c.in_ok-admitted.ensures.left in
-    let planned = rw c.index-2.ensures at c.in_ok-plan.ensures.left in
-    let one = rw c.index.ensures at c.in_ok-admitted.ensures.cost in
-    let two = rw c.index-2.ensures at c.in_ok-plan.ensures.cost in
-    let two_here = two corpus holds.valid holds.index (sound_here c.args.held.now corpus holds c.args.tree.now c.requires.sound) in
-    price_here c.args.held.now corpus holds c.args.tree.now c.args.claims.now c.args.sorts.now (plan_left c.in_ok-plan.plan) _ c.requires.sound admitted planned c.stored_values_stand.ensures c.stored_urls_stand.ensures c.columns_count_as_numbers.ensures c.requires.few c.requires.within c.args.request.now _ _ _ _ _ _ (one corpus holds.valid holds.index) two_here c.found_of.ensures.cost
+    let planned = rw c.index.ensures at c.in_ok-plan.ensures.left in
+    let cost = rw c.index.ensures at c.in_ok-plan.ensures.cost in
+    let cost_here = cost corpus holds.valid holds.index (sound_here c.args.held.now corpus holds c.args.tree.now c.requires.sound) in
+    price_here c.args.held.now corpus holds c.args.tree.now c.args.claims.now c.args.sorts.now (plan_left c.in_ok-plan.plan) c.requires.sound planned c.stored_values_stand.ensures c.stored_urls_stand.ensures c.columns_count_as_numbers.ensures c.requires.few c.requires.within c.args.request.now _ _ _ _ cost_here c.found_of.ensures.cost
 
 pub returns-in-Some-clause-price : goal.returns-in-Some-clause-price
 returns-in-Some-clause-price g c = λ corpus holds.
-    let admitted = rw c.index.ensures at c.in_ok-admitted.ensures.left in
-    let planned = rw c.index-2.ensures at c.in_ok-plan.ensures.left in
-    let one = rw c.index.ensures at c.in_ok-admitted.ensures.cost in
-    let two = rw c.index-2.ensures at c.in_ok-plan.ensures.cost in
-    let two_here = two corpus holds.valid holds.index (sound_here c.args.held.now corpus holds c.args.tree.now c.requires.sound) in
-    price_here c.args.held.now corpus holds c.args.tree.now c.args.claims.now c.args.sorts.now (plan_left c.in_ok-plan.plan) _ c.requires.sound admitted planned c.stored_values_stand.ensures c.stored_urls_stand.ensures c.columns_count_as_numbers.ensures c.requires.few c.requires.within c.args.request.now _ _ _ _ _ _ (one corpus holds.valid holds.index) two_here c.found_of.ensures.cost
+    let planned = rw c.index.ensures at c.in_ok-plan.ensures.left in
+    let cost = rw c.index.ensures at c.in_ok-plan.ensures.cost in
+    let cost_here = cost corpus holds.valid holds.index (sound_here c.args.held.now corpus holds c.args.tree.now c.requires.sound) in
+    price_here c.args.held.now corpus holds c.args.tree.now c.args.claims.now c.args.sorts.now (plan_left c.in_ok-plan.plan) c.requires.sound planned c.stored_values_stand.ensures c.stored_urls_stand.ensures c.columns_count_as_numbers.ensures c.requires.few c.requires.within c.args.request.now _ _ _ _ cost_here c.found_of.ensures.cost
