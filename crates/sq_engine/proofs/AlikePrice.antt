@@ -57,7 +57,7 @@ module _ (schema : List Property) (callers : List Caller) (pairs : List Twins) w
     spans = λ look tree. sum_of_leaves (λ leaf. leaves_same look leaf i) tree;
     leaf = λ look leaf. leaves_same look leaf i;
     range = λ property. counts_same pairs property i;
-    xrank = 0;
+    xrank = λ n. n;
   }
 
   cost_same : (tree : FTree) → cost (one schema callers pairs) tree ≡ cost (two schema callers pairs) tree

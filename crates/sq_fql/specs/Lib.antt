@@ -5,4 +5,5 @@ pub mod Number
 pub mod Operators
 pub mod Parameters
 pub mod Read
+pub mod Sums
 pub mod WellFormed

@@ -15,6 +15,7 @@ use Rattle.sq_fql.specs.declared.operator.Operator.{Operator}
 use Rattle.sq_fql.specs.declared.operator.Operator.TheVariants as operator
 use Rattle.sq_fql.specs.declared.operator.Arity.{Arity}
 use Rattle.sq_fql.specs.Operators.{operands_of}
+use Rattle.sq_fql.specs.Sums.{Counts, sum_over, sum_over_each}
 use Rattle.sq_fql.specs.Limits.{fql_byte_bound, greatest_count, fql_distance}
 
 -- the operator without its parameters
@@ -89,33 +90,35 @@ abbrev mutual
   HaveForm end_of-FRaw = Unit {0}
   HaveForm (more_of-FRaw part rest) = HasForm part × HaveForm rest
 
-abbrev mutual
-  -- the bytes of a tree's literals
-  pub bytes : FRaw → ℕ
-  bytes (All at) = 0
-  bytes (Literal p) = length p.text
-  bytes (Scope' at name s inside) = bytes_each inside
-  bytes (Apply' at op s operands) = bytes_each operands
+-- the bytes of a tree's literals
+abbrev pub byte_counts : Counts
+byte_counts = record {
+  literal = λ p. length p.text;
+  operator = λ op n. n;
+}
 
-  pub bytes_each : {m : _} → Row_of-FRaw m → ℕ
-  bytes_each end_of-FRaw = 0
-  bytes_each (more_of-FRaw part rest) = bytes part + bytes_each rest
+abbrev pub bytes : FRaw → ℕ
+bytes tree = sum_over byte_counts tree
+
+abbrev pub bytes_each : {m : _} → Row_of-FRaw m → ℕ
+bytes_each parts = sum_over_each byte_counts parts
 
 abbrev pub is_xrank : Op → ℕ
 is_xrank (op.Xrank cb) = 1
 is_xrank _ = 0
 
-abbrev mutual
-  -- how many operators of a tree are xrank
-  pub xranks : FRaw → ℕ
-  xranks (All at) = 0
-  xranks (Literal p) = 0
-  xranks (Scope' at name s inside) = xranks_each inside
-  xranks (Apply' at op s operands) = is_xrank op + xranks_each operands
+-- how many operators of a tree are xrank
+abbrev pub xrank_counts : Counts
+xrank_counts = record {
+  literal = λ p. 0;
+  operator = λ op n. is_xrank op + n;
+}
 
-  pub xranks_each : {m : _} → Row_of-FRaw m → ℕ
-  xranks_each end_of-FRaw = 0
-  xranks_each (more_of-FRaw part rest) = xranks part + xranks_each rest
+abbrev pub xranks : FRaw → ℕ
+xranks tree = sum_over xrank_counts tree
+
+abbrev pub xranks_each : {m : _} → Row_of-FRaw m → ℕ
+xranks_each parts = sum_over_each xrank_counts parts
 
 pub record IsWellFormed (t : FRaw) : Type 0 where
   pub form : HasForm t

@@ -5,6 +5,7 @@ use Rattle.sq_base.specs.Limits.{greatest_distance, greatest_boost, kql_byte_bou
 use Rattle.sq_tokens.specs.Token.{text_tokens}
 use Rattle.sq_tokens.specs.Pattern.{without_good_star, first_bad_star}
 use Rattle.sq_lex.specs.Shape.{is_range}
+use Rattle.sq_kql.specs.Sums.{Counts, sum_over, sum_over_each, sum_over_operands}
 use Rattle.sq_kql.specs.declared.raw.Piece.{Piece}
 use Rattle.sq_kql.specs.declared.raw.KRaw.{KRaw, Free, All, Words, Group', Restrict, Near', Run', And', Or', Xrank', Row_of-KRaw, end_of-KRaw, more_of-KRaw, Row_of-KRawOperand, end_of-KRawOperand, more_of-KRawOperand}
 
@@ -54,45 +55,40 @@ abbrev pub upper_bytes : Option Piece → ℕ
 upper_bytes None = 0
 upper_bytes (Some p) = piece_bytes p
 
-abbrev mutual
-  -- the bytes of a tree's pieces
-  pub bytes : KRaw → ℕ
-  bytes (Free p) = piece_bytes p
-  bytes (All at) = 0
-  bytes (Words at ps) = fold (λ n p. n + piece_bytes p) 0 ps
-  bytes (Group' at s inside) = bytes_each inside
-  bytes (Restrict at name rel value upper) = piece_bytes value + upper_bytes upper
-  bytes (Near' at s left t right n ordered) = bytes_each left + bytes_each right
-  bytes (Run' at s operands) = operand_bytes operands
-  bytes (And' at s parts) = bytes_each parts
-  bytes (Or' at s parts) = bytes_each parts
-  bytes (Xrank' at s matched t ranked cb) = bytes_each matched + bytes_each ranked
+-- the bytes of a tree's pieces
+abbrev pub byte_counts : Counts
+byte_counts = record {
+  piece = piece_bytes;
+  words = λ ps. fold (λ n p. n + piece_bytes p) 0 ps;
+  upper = upper_bytes;
+  whole = λ n. n;
+}
 
-  pub bytes_each : {m : _} → Row_of-KRaw m → ℕ
-  bytes_each end_of-KRaw = 0
-  bytes_each (more_of-KRaw part rest) = bytes part + bytes_each rest
+abbrev pub bytes : KRaw → ℕ
+bytes tree = sum_over byte_counts tree
 
-  pub operand_bytes : {m : _} → Row_of-KRawOperand m → ℕ
-  operand_bytes end_of-KRawOperand = 0
-  operand_bytes (more_of-KRawOperand sign at tree rest) = bytes tree + operand_bytes rest
+abbrev pub bytes_each : {m : _} → Row_of-KRaw m → ℕ
+bytes_each parts = sum_over_each byte_counts parts
 
-abbrev mutual
-  pub nodes : KRaw → ℕ
-  nodes (Group' at s inside) = 1 + nodes_each inside
-  nodes (Near' at s left t right n ordered) = 1 + nodes_each left + nodes_each right
-  nodes (Run' at s operands) = 1 + operand_nodes operands
-  nodes (And' at s parts) = 1 + nodes_each parts
-  nodes (Or' at s parts) = 1 + nodes_each parts
-  nodes (Xrank' at s matched t ranked cb) = 1 + nodes_each matched + nodes_each ranked
-  nodes _ = 1
+abbrev pub operand_bytes : {m : _} → Row_of-KRawOperand m → ℕ
+operand_bytes operands = sum_over_operands byte_counts operands
 
-  pub nodes_each : {m : _} → Row_of-KRaw m → ℕ
-  nodes_each end_of-KRaw = 0
-  nodes_each (more_of-KRaw part rest) = nodes part + nodes_each rest
+abbrev pub node_counts : Counts
+node_counts = record {
+  piece = λ p. 0;
+  words = λ ps. 0;
+  upper = λ upper. 0;
+  whole = λ n. 1 + n;
+}
 
-  pub operand_nodes : {m : _} → Row_of-KRawOperand m → ℕ
-  operand_nodes end_of-KRawOperand = 0
-  operand_nodes (more_of-KRawOperand sign at tree rest) = nodes tree + operand_nodes rest
+abbrev pub nodes : KRaw → ℕ
+nodes tree = sum_over node_counts tree
+
+abbrev pub nodes_each : {m : _} → Row_of-KRaw m → ℕ
+nodes_each parts = sum_over_each node_counts parts
+
+abbrev pub operand_nodes : {m : _} → Row_of-KRawOperand m → ℕ
+operand_nodes operands = sum_over_operands node_counts operands
 
 pub record IsWellFormed (t : KRaw) : Type 0 where
   pub form : HasForm t

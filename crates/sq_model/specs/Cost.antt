@@ -60,7 +60,7 @@ reads_of corpus = record {
   spans = spans_count corpus;
   leaf = leaf_count corpus;
   range = number_count corpus.items;
-  xrank = 0;
+  xrank = λ n. n;
 }
 
 abbrev pub reads : Corpus → FTree → ℕ

@@ -5,10 +5,15 @@ use Rattle.sq_schema.specs.declared.property.Property.{Property}
 use Rattle.sq_model.specs.Copies.{copies}
 use Rattle.sq_model.specs.Limits.{most_copies, token_bound}
 use Rattle.sq_model.specs.Kinds.{is_text_property, is_number_property, is_boost}
+use Rattle.sq_model.specs.Sums.{Counts, sum_of_leaves, sums_of_leaves, sum_over, sums_over}
+use Rattle.sq_model.specs.declared.leaf.Leaf.{Leaf as Literal}
 use Rattle.sq_model.specs.declared.fql.Look.{Look}
 use Rattle.sq_model.specs.declared.fql.Look.TheVariants.{Searchable, One}
 use Rattle.sq_model.specs.declared.fql.SpanTree.{SpanTree, Leaf, Union', Near', Row_of-SpanTree, end_of-SpanTree, more_of-SpanTree}
 use Rattle.sq_model.specs.declared.fql.FTree.{FTree, All, Spans, Count, Edge, Within, And', Or', AndNot', Not', Filter', Xrank', Row_of-FTree, end_of-FTree, more_of-FTree}
+
+abbrev pub pattern_tokens : Literal → ℕ
+pattern_tokens leaf = length leaf.pattern.texts
 
 abbrev pub is_look : List Property → Look → Bool
 is_look schema Searchable = true
@@ -54,47 +59,40 @@ abbrev mutual
   EachSound schema end_of-FTree = Unit {0}
   EachSound schema (more_of-FTree part rest) = PartsSound schema part × EachSound schema rest
 
-abbrev mutual
-  -- how many tokens the patterns have together
-  pub tokens_in_spans : SpanTree → ℕ
-  tokens_in_spans (Leaf leaf) = length leaf.pattern.texts
-  tokens_in_spans (Union' shape parts) = sum (tokens_of_parts parts)
-  tokens_in_spans (Near' shape parts n ordered) = sum (tokens_of_parts parts)
+-- how many tokens the patterns have together
+abbrev pub tokens_in_spans : SpanTree → ℕ
+tokens_in_spans tree = sum_of_leaves pattern_tokens tree
 
-  pub tokens_of_parts : {m : _} → Row_of-SpanTree m → List ℕ
-  tokens_of_parts end_of-SpanTree = []
-  tokens_of_parts (more_of-SpanTree part rest) = tokens_in_spans part ∷ tokens_of_parts rest
+abbrev pub tokens_of_parts : {m : _} → Row_of-SpanTree m → List ℕ
+tokens_of_parts parts = sums_of_leaves pattern_tokens parts
 
-abbrev mutual
-  pub tokens_in : FTree → ℕ
-  tokens_in (Spans look tree) = tokens_in_spans tree
-  tokens_in (Count look leaf from to) = length leaf.pattern.texts
-  tokens_in (Edge look leaf starts ends) = length leaf.pattern.texts
-  tokens_in (And' shape parts) = sum (tokens_each parts)
-  tokens_in (Or' shape parts) = sum (tokens_each parts)
-  tokens_in (AndNot' s first t others) = sum (tokens_each first) + sum (tokens_each others)
-  tokens_in (Not' s inner) = sum (tokens_each inner)
-  tokens_in (Filter' s inner) = sum (tokens_each inner)
-  tokens_in (Xrank' s matched t ranks cb) = sum (tokens_each matched) + sum (tokens_each ranks)
-  tokens_in _ = 0
+abbrev pub token_counts : Counts
+token_counts = record {
+  spans = λ look tree. tokens_in_spans tree;
+  leaf = λ look leaf. pattern_tokens leaf;
+  range = λ property. 0;
+  xrank = λ n. n;
+}
 
-  pub tokens_each : {m : _} → Row_of-FTree m → List ℕ
-  tokens_each end_of-FTree = []
-  tokens_each (more_of-FTree part rest) = tokens_in part ∷ tokens_each rest
+abbrev pub tokens_in : FTree → ℕ
+tokens_in tree = sum_over token_counts tree
 
-abbrev mutual
-  pub xranks_in : FTree → ℕ
-  xranks_in (And' shape parts) = sum (xranks_each parts)
-  xranks_in (Or' shape parts) = sum (xranks_each parts)
-  xranks_in (AndNot' s first t others) = sum (xranks_each first) + sum (xranks_each others)
-  xranks_in (Not' s inner) = sum (xranks_each inner)
-  xranks_in (Filter' s inner) = sum (xranks_each inner)
-  xranks_in (Xrank' s matched t ranks cb) = 1 + (sum (xranks_each matched) + sum (xranks_each ranks))
-  xranks_in _ = 0
+abbrev pub tokens_each : {m : _} → Row_of-FTree m → List ℕ
+tokens_each parts = sums_over token_counts parts
 
-  pub xranks_each : {m : _} → Row_of-FTree m → List ℕ
-  xranks_each end_of-FTree = []
-  xranks_each (more_of-FTree part rest) = xranks_in part ∷ xranks_each rest
+abbrev pub xrank_counts : Counts
+xrank_counts = record {
+  spans = λ look tree. 0;
+  leaf = λ look leaf. 0;
+  range = λ property. 0;
+  xrank = λ n. 1 + n;
+}
+
+abbrev pub xranks_in : FTree → ℕ
+xranks_in tree = sum_over xrank_counts tree
+
+abbrev pub xranks_each : {m : _} → Row_of-FTree m → List ℕ
+xranks_each parts = sums_over xrank_counts parts
 
 pub record IsSound (schema : List Property) (tree : FTree) : Type 0 where
   pub parts : PartsSound schema tree

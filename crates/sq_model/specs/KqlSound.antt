@@ -9,6 +9,7 @@ use Rattle.sq_tokens.specs.Pattern.{text_phrase, first_bad_star, without_good_st
 use Rattle.sq_model.specs.Lists.{is_empty}
 use Rattle.sq_model.specs.Kinds.{kind_of, is_text_property, is_integer_value, is_moment_value, is_same, is_boost}
 use Rattle.sq_model.specs.KqlCopies.{copies}
+use Rattle.sq_model.specs.KqlSums.{Counts, sum_over, sums_over, operand_sums}
 use Rattle.sq_model.specs.Valid.{is_from_to}
 use Rattle.sq_model.specs.declared.leaf.Leaf.{Leaf}
 use Rattle.sq_model.specs.declared.kql.Relation.{Relation}
@@ -93,45 +94,38 @@ abbrev mutual
   EachOperandSound schema end_of-KOperand = Unit {0}
   EachOperandSound schema (more_of-KOperand sign tree rest) = PartsSound schema tree × EachOperandSound schema rest
 
-abbrev mutual
-  -- how many bytes the leaves' texts have together
-  pub text_bytes : KTree → ℕ
-  text_bytes (Free leaf) = length leaf.text
-  text_bytes (Words leaves) = sum_by (λ leaf. length leaf.text) leaves
-  text_bytes (TextTest property relation leaf) = length leaf.text
-  text_bytes (Group' s inside) = sum (text_bytes_each inside)
-  text_bytes (Near' s left t right n ordered) = sum (text_bytes_each left) + sum (text_bytes_each right)
-  text_bytes (Run' shape operands) = sum (text_bytes_of operands)
-  text_bytes (And' shape parts) = sum (text_bytes_each parts)
-  text_bytes (Or' shape parts) = sum (text_bytes_each parts)
-  text_bytes (Xrank' s matched t ranked cb) = sum (text_bytes_each matched) + sum (text_bytes_each ranked)
-  text_bytes _ = 0
+-- how many bytes the leaves' texts have together
+abbrev pub byte_counts : Counts
+byte_counts = record {
+  leaf = λ leaf. length leaf.text;
+  words = λ leaves. sum_by (λ leaf. length leaf.text) leaves;
+  whole = λ n. n;
+}
 
-  pub text_bytes_each : {m : _} → Row_of-KTree m → List ℕ
-  text_bytes_each end_of-KTree = []
-  text_bytes_each (more_of-KTree part rest) = text_bytes part ∷ text_bytes_each rest
+abbrev pub text_bytes : KTree → ℕ
+text_bytes tree = sum_over byte_counts tree
 
-  pub text_bytes_of : {m : _} → Row_of-KOperand m → List ℕ
-  text_bytes_of end_of-KOperand = []
-  text_bytes_of (more_of-KOperand sign tree rest) = text_bytes tree ∷ text_bytes_of rest
+abbrev pub text_bytes_each : {m : _} → Row_of-KTree m → List ℕ
+text_bytes_each parts = sums_over byte_counts parts
 
-abbrev mutual
-  pub nodes : KTree → ℕ
-  nodes (Group' s inside) = 1 + sum (nodes_each inside)
-  nodes (Near' s left t right n ordered) = 1 + (sum (nodes_each left) + sum (nodes_each right))
-  nodes (Run' shape operands) = 1 + sum (nodes_of operands)
-  nodes (And' shape parts) = 1 + sum (nodes_each parts)
-  nodes (Or' shape parts) = 1 + sum (nodes_each parts)
-  nodes (Xrank' s matched t ranked cb) = 1 + (sum (nodes_each matched) + sum (nodes_each ranked))
-  nodes _ = 1
+abbrev pub text_bytes_of : {m : _} → Row_of-KOperand m → List ℕ
+text_bytes_of operands = operand_sums byte_counts operands
 
-  pub nodes_each : {m : _} → Row_of-KTree m → List ℕ
-  nodes_each end_of-KTree = []
-  nodes_each (more_of-KTree part rest) = nodes part ∷ nodes_each rest
+abbrev pub node_counts : Counts
+node_counts = record {
+  leaf = λ leaf. 0;
+  words = λ leaves. 0;
+  whole = λ n. 1 + n;
+}
 
-  pub nodes_of : {m : _} → Row_of-KOperand m → List ℕ
-  nodes_of end_of-KOperand = []
-  nodes_of (more_of-KOperand sign tree rest) = nodes tree ∷ nodes_of rest
+abbrev pub nodes : KTree → ℕ
+nodes tree = sum_over node_counts tree
+
+abbrev pub nodes_each : {m : _} → Row_of-KTree m → List ℕ
+nodes_each parts = sums_over node_counts parts
+
+abbrev pub nodes_of : {m : _} → Row_of-KOperand m → List ℕ
+nodes_of operands = operand_sums node_counts operands
 
 pub record IsSound (schema : List Property) (tree : KTree) : Type 0 where
   pub parts : PartsSound schema tree

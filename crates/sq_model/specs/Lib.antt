@@ -8,6 +8,7 @@ pub mod Kinds
 pub mod Kql
 pub mod KqlCopies
 pub mod KqlSound
+pub mod KqlSums
 pub mod Laws
 pub mod Limits
 pub mod Lists

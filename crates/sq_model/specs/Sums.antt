@@ -16,12 +16,12 @@ abbrev mutual
   sums_of_leaves counts end_of-SpanTree = []
   sums_of_leaves counts (more_of-SpanTree part rest) = sum_of_leaves counts part ∷ sums_of_leaves counts rest
 
--- what the parts of an FQL expression that have no parts of their own count, and each xrank beside its parts
+-- what the parts of an FQL expression that have no parts of their own count, and an xrank by the sum over its parts
 pub record Counts : Type 0 where
   pub spans : Look → SpanTree → ℕ
   pub leaf : Look → Literal → ℕ
   pub range : ℕ → ℕ
-  pub xrank : ℕ
+  pub xrank : ℕ → ℕ
 
 abbrev mutual
   pub sum_over : Counts → FTree → ℕ
@@ -35,7 +35,7 @@ abbrev mutual
   sum_over counts (AndNot' s first t others) = sum (sums_over counts first) + sum (sums_over counts others)
   sum_over counts (Not' s inner) = sum (sums_over counts inner)
   sum_over counts (Filter' s inner) = sum (sums_over counts inner)
-  sum_over counts (Xrank' s matched t ranks cb) = counts.xrank + (sum (sums_over counts matched) + sum (sums_over counts ranks))
+  sum_over counts (Xrank' s matched t ranks cb) = counts.xrank (sum (sums_over counts matched) + sum (sums_over counts ranks))
 
   pub sums_over : {m : _} → Counts → Row_of-FTree m → List ℕ
   sums_over counts end_of-FTree = []

@@ -94,12 +94,12 @@ pub small_group : (m n : ℕ) (u : KTree) → Small m n u → Small (m + 0) (1 +
 unfolding shape-the_row-KTree-0 hidden-the_row-KTree-0 denote.Hole.Carrier.hidden
 small_group m n u h = record { few_bytes = omega (arith, h.few_bytes); few_nodes = omega (arith, h.few_nodes) }
 
-pub small_near : (m n i j : ℕ) (l r : KTree) (k : ℕ) (ordered : Bool) → Small m n l → Small i j r → Small ((m + 0) + (i + 0)) (1 + (n + 0) + (j + 0)) (tree.Near l r k ordered)
+pub small_near : (m n i j : ℕ) (l r : KTree) (k : ℕ) (ordered : Bool) → Small m n l → Small i j r → Small ((m + 0) + (i + 0)) (1 + ((n + 0) + (j + 0))) (tree.Near l r k ordered)
 unfolding shape-the_row-KTree-0 hidden-the_row-KTree-0 denote.Hole.Carrier.hidden
 small_near m n i j l r k ordered g h =
     record { few_bytes = omega (arith, g.few_bytes, h.few_bytes); few_nodes = omega (arith, g.few_nodes, h.few_nodes) }
 
-pub small_xrank : (m n i j : ℕ) (l r : KTree) (cb : ℤ) → Small m n l → Small i j r → Small ((m + 0) + (i + 0)) (1 + (n + 0) + (j + 0)) (tree.Xrank l r cb)
+pub small_xrank : (m n i j : ℕ) (l r : KTree) (cb : ℤ) → Small m n l → Small i j r → Small ((m + 0) + (i + 0)) (1 + ((n + 0) + (j + 0))) (tree.Xrank l r cb)
 unfolding shape-the_row-KTree-0 hidden-the_row-KTree-0 denote.Hole.Carrier.hidden
 small_xrank m n i j l r cb g h =
     record { few_bytes = omega (arith, g.few_bytes, h.few_bytes); few_nodes = omega (arith, g.few_nodes, h.few_nodes) }

@@ -248,7 +248,7 @@ module _ (schema : List Property) where
   group_fits m n u h = record { sound = (h.sound, tt); small = small_group m n u h.small }
 
   xrank_fits : (m n i j : ℕ) (u v : KTree) (cb : ℤ) → unsigned_abs cb ≤ 1_000_000 → Fits m n u → Fits i j v →
-      Fits ((m + 0) + (i + 0)) (1 + (n + 0) + (j + 0)) (tree.Xrank u v cb)
+      Fits ((m + 0) + (i + 0)) (1 + ((n + 0) + (j + 0))) (tree.Xrank u v cb)
   unfolding shape-the_row-KTree-0 hidden-the_row-KTree-0 denote.Hole.Carrier.hidden
   xrank_fits m n i j u v cb bound h k =
       record { sound = ((h.sound, tt), (k.sound, tt), boost_is cb bound); small = small_xrank m n i j u v cb h.small k.small }
