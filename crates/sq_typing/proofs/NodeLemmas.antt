@@ -74,6 +74,22 @@ below_tree a b t less is = omega arith
 pub below_list : (a b t : ℕ) → a ≤ b → 2 * b + 1 ≡ t → 2 * a < t
 below_list a b t less is = omega arith
 
--- that of each of two parts whose measures are taken together
-pub below_pair : (a b t : ℕ) → 2 * (a + b) + 1 ≡ t → (2 * a < t) × (2 * b < t)
-below_pair a b t is = (omega arith, omega arith)
+-- the same inside NEAR, where each way has a function more
+pub thrice_below : (a b t : ℕ) → a < b → 3 * b ≡ t → (3 * a + 1 < t) × (3 * a + 2 < t)
+thrice_below a b t less is = (omega arith, omega arith)
+
+pub thrice_list : (a b t : ℕ) → a ≤ b → 3 * b + 1 ≡ t → 3 * a < t
+thrice_list a b t less is = omega arith
+
+-- behind the left of two parts whose measures are taken together, and the right one
+pub thrice_left : (a b t : ℕ) → 3 * (a + b) + 2 ≡ t → (3 * a < t) × (3 * (a + b) + 1 < t)
+thrice_left a b t is = (omega arith, omega arith)
+
+pub thrice_right : (a b t : ℕ) → 3 * (a + b) + 1 ≡ t → 3 * b < t
+thrice_right a b t is = omega arith
+
+pub thrice_one : (a t : ℕ) → 3 * a + 1 ≡ t → 3 * a < t
+thrice_one a t is = omega arith
+
+pub thrice_each : (a t : ℕ) → 3 * a + 2 ≡ t → 3 * a + 1 < t
+thrice_each a t is = omega arith
